@@ -1,0 +1,35 @@
+// The trait of a kind of amount. Generic code knows a kind by this trait alone.
+ghost use mathlib.Core.Path.{_≡_};
+ghost use Rattle.amounts.specs.Kinds.{Kind, Laws, Shareable};
+use crate::bounds::Bounds;
+use crate::bounds::Parts;
+
+/// An amount of some kind: a plain value, with no invariant, since amounts lie in memory that the caller lends.
+pub trait Amount: Copy {
+    ghost kind: { Kind Self };
+
+    law laws: { Laws kind };
+
+    fn nothing() -> Self
+        ensures { λ r. ⌜ r ≡ kind .nothing ⌝ };
+
+    fn full() -> Self
+        ensures { λ r. ⌜ r ≡ kind .full ⌝ };
+
+    /// The least amount other than nothing.
+    fn grain() -> Self
+        ensures { λ r. ⌜ r ≡ kind .grain ⌝ };
+
+    fn total(self, other: Self) -> Self
+        ensures { λ r. ⌜ r ≡ kind .total self other ⌝ };
+
+    fn at_most(self, other: Self) -> bool
+        ensures { λ r. ⌜ r ≡ kind .atMost self other ⌝ };
+
+    fn larger(self, other: Self) -> Self
+        ensures { λ r. ⌜ r ≡ kind .larger self other ⌝ };
+
+    /// Splits `self` between two sides. Outside the premise of the law it answers any two amounts.
+    fn share_out(self, own: Bounds<Self>, others: Bounds<Self>) -> Parts<Self>
+        ensures { λ r. ⌜ (Shareable kind self own others → r ≡ kind .shareOut self own others) ⌝ };
+}
