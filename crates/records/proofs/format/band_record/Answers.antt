@@ -1,0 +1,9 @@
+use borrow.Author.Needs.{needs}
+use Rattle.records.proofs.Positions.{band-wrong, band-right}
+use Rattle.records.proofs.format.band_record.Needs as need
+
+pub returns-then-bytes-ne0 : need.returns-then-bytes-ne0
+returns-then-bytes-ne0 c = record { answer = rw (band-wrong (c .args .bytes .now) (c .pre .band) (search needs)); in-record = tt }
+
+pub returns : need.returns
+returns c = record { answer = rw (band-right (c .args .bytes .now) (c .pre .band) (search needs)) (search needs); in-record = tt }

@@ -1,0 +1,40 @@
+// The reader: a cursor over the caller's bytes, which it never copies.
+ghost use mathlib.Core.Path.{_≡_};
+ghost use Rattle.records.specs.Reading.{Next};
+use crate::fault::RecordFault;
+use crate::format::RECORD_BYTES;
+use crate::format::whole_record;
+use crate::record::Record;
+
+#[derive(Clone, Copy)]
+pub struct Reader<'a> {
+    pub bytes: &'a [u8],
+    pub cursor: usize,
+}
+
+impl<'a> Reader<'a> {
+    pub fn new(bytes: &'a [u8]) -> Reader<'a>
+        ensures input { λ r. ⌜ r .bytes ≡ bytes .entry ⌝ }
+        ensures start { λ r. ⌜ r .cursor ≡ 0 ⌝ }
+    {
+        Reader { bytes, cursor: 0 }
+    }
+
+    /// The record at the cursor, or `None` at the end. On a fault the cursor stays.
+    pub fn next(&mut self) -> Result<Option<Record<'a>>, RecordFault>
+        ensures { λ r. ⌜ Next (now (self .entry)) (now (self .exit)) r ⌝ }
+    {
+        let bytes = self.bytes;
+        let at = self.cursor;
+        if at >= bytes.len() {
+            return Ok(None);
+        }
+        let left = bytes.len() - at;
+        if left < RECORD_BYTES {
+            return Err(RecordFault::Partial { bytes: left });
+        }
+        let record = whole_record(&bytes[at..at + RECORD_BYTES], at)?;
+        self.cursor = at + RECORD_BYTES;
+        Ok(Some(record))
+    }
+}
