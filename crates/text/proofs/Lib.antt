@@ -1,0 +1,4 @@
+pub mod Hexadecimal
+pub mod Pieces
+pub mod Spelling
+pub mod Writes

@@ -1,0 +1,8 @@
+use mathlib.Core.Path.{sym, ap, _∙_}
+use lib.ListN.{length}
+use Rattle.text.specs.Pieces.{said}
+use Rattle.text.proofs.Hexadecimal.{length-hexadecimal}
+use Rattle.text.proofs.piece.piece_len.Needs as need
+
+pub returns-in-Hex : need.returns-in-Hex
+returns-in-Hex c = rw (c .in-Hex .is) (sym (length-hexadecimal (c .in-Hex .bytes .now)))

@@ -1,0 +1,6 @@
+// Text: words, decimal numbers and hexadecimal bytes, written into the caller's bytes.
+pub mod decimal;
+pub mod hex;
+pub mod piece;
+pub mod room;
+pub mod word;
