@@ -5,7 +5,7 @@ use mathlib.Core.List.{List}
 use mathlib.Core.Logic.{_⊎_, inl, inr, ⊎-elim}
 use Prim.Native.Nat.{ℕ, zero, suc, _+_, _≤_, _<_}
 use native.Mathlib.Omega.{arith}
-use Rattle.std.proofs.shelf.Tests.{cases-eq, cases-lt}
+use Rattle.std.proofs.shelf.Tests.{cases-bool, cases-eq, cases-lt}
 use Rattle.std.proofs.shelf.Ways.{tells}
 use Rattle.std.specs.declared.option.Option.the-variants.{None, Some}
 use Rattle.records.specs.Format.{byte, lowest, wrongAt, wrongPosition}
@@ -29,6 +29,17 @@ module _ (test : ℕ → Bool) where
         rw first (lowest-is (suc from) n p (omega arith) (omega arith) is (λ k above below. before k (omega arith) below)))
       (cases-eq from p)
 
+  none-passes : (from n : ℕ) → lowest test from n ≡ None → (k : ℕ) → from ≤ k → k < from + n → test k ≡ false
+  unfolding lowest
+  none-passes from zero none k lo hi = absurd (omega arith)
+  none-passes from (suc n) none k lo hi =
+      ⊎-elim
+      (λ (first : test from ≡ true). let some : Some from ≡ None = rw first at none in let z : _≡_ {A = ℕ} 0 1 = cc in absurd (omega arith))
+      (λ (first : test from ≡ false).
+        let later : lowest test (suc from) n ≡ None = rw first at none in
+        ⊎-elim (λ (here : from ≡ k). rw here at first) (λ (past : from ≡ k → ⊥). none-passes (suc from) n later k (omega arith) (omega arith)) (cases-eq from k))
+      (cases-bool (test from))
+
 -- p is the lowest wrong position of r
 wrong-is : (r : List ℕ) (p : ℕ) → p < 12 → wrongAt r p ≡ true → ((k : ℕ) → k < p → wrongAt r k ≡ false) → wrongPosition r ≡ Some p
 wrong-is r p within is before = lowest-is (wrongAt r) 0 12 p (omega arith) (omega arith) is (λ k lo. before k)
@@ -45,6 +56,10 @@ module _ (r : List ℕ) (kind : byte r 0 ≡ 0x42) where
       right k (inr ne) = grind (arith, tells)
 
 module _ (r : List ℕ) (kind : byte r 0 ≡ 0x4E) where
+  -- a name that is nowhere wrong has at most 8 bytes
+  pub few-named : wrongPosition r ≡ None → byte r 2 ≤ 8
+  few-named none = let right : wrongAt r 2 ≡ false = none-passes (wrongAt r) 0 12 none 2 (omega arith) (omega arith) in grind (arith, tells)
+
   pub length-wrong : (byte r 2 < 1) ⊎ (8 < byte r 2) → wrongPosition r ≡ Some 2
   length-wrong out = wrong-is r 2 (omega arith) (grind (arith, tells)) (λ k below. grind (arith, tells))
 
