@@ -1,4 +1,5 @@
 pub mod Contents
+pub mod Counts
 pub mod Faults
 pub mod Format
 pub mod Reading

@@ -1,4 +1,5 @@
 // Records: the twelve-byte record format, read from the caller's bytes without a copy.
+pub mod counts;
 pub mod fault;
 mod format;
 pub mod reader;

@@ -1,3 +1,4 @@
+pub mod DigitCounts
 pub mod Hexadecimal
 pub mod Pieces
 pub mod Spelling

@@ -11,7 +11,7 @@ use Rattle.text.specs.declared.piece.Piece.{Piece}
 use Rattle.text.specs.declared.piece.Piece.the-variants.{Word}
 use Rattle.text.specs.Pieces.{said, printed}
 use Rattle.text.specs.Puts.{over, Put}
-use Rattle.text.proofs.Writes.{done, over-append, over-none}
+use Rattle.text.proofs.Writes.{after, after-fits, over-none}
 
 printed-append : (ps qs : List Piece) → printed (ps ++ qs) ≡ printed ps ++ printed qs
 printed-append [] qs = refl
@@ -43,14 +43,16 @@ pub record Sofar (old : List ℕ) (at : ℕ) (ps : List Piece) (i : ℕ) (text :
 pub none-put : (old : List ℕ) (at : ℕ) (ps : List Piece) → Sofar old at ps 0 old at
 none-put old at ps = record { ends = sym (add-zero at); writes = sym (over-none old at) }
 
-module _ (old : List ℕ) (at : ℕ) (ps : List Piece) (room : at + length (printed ps) ≤ length old) {i : ℕ} {text : List ℕ} {end : ℕ} (sofar : Sofar old at ps i text end) (same : length text ≡ length old) (below : i < length ps) where
+module _ (old : List ℕ) (at : ℕ) (ps : List Piece) (room : at + length (printed ps) ≤ length old) {i : ℕ} {text : List ℕ} {end : ℕ} (sofar : Sofar old at ps i text end) (long : length text ≡ length old) (below : i < length ps) where
+  next-room : at + length (printed (take i ps) ++ said (getD ps i blank)) ≤ length old
+  next-room = omega (arith, length-append (printed (take i ps)) (said (getD ps i blank)), printed-within ps i below)
+
   pub next-fits : end + length (said (getD ps i blank)) ≤ length text
-  next-fits = omega (arith, printed-within ps i below, sofar .ends)
+  next-fits = after-fits old at (printed (take i ps)) (said (getD ps i blank)) next-room (sofar .writes) (sofar .ends) long
 
   pub next-put : {new : List ℕ} {next : ℕ} → Put text end (said (getD ps i blank)) new (Ok next) → Sofar old at ps (i + 1) new next
-  next-put {new} {next} p =
-      let put = done text end (said (getD ps i blank)) p next-fits in
-      let before : List ℕ = printed (take i ps) in
-      let joined : over text end (said (getD ps i blank)) ≡ over old at (before ++ said (getD ps i blank)) = rw (sofar .writes, sofar .ends) (over-append old at before (said (getD ps i blank)) (omega (arith, printed-within ps i below))) in
-      let next-is : next ≡ end + length (said (getD ps i blank)) = cc (put .0) in
-      record { ends = omega (arith, next-is, sofar .ends, length-printed-more ps i below); writes = put .1 ∙ joined ∙ ap (over old at) (sym (printed-more ps i below)) }
+  next-put {next = next} p =
+      let put = after old at (printed (take i ps)) (said (getD ps i blank)) next-room (sofar .writes) (sofar .ends) long p in
+      let front = sym (printed-more ps i below) in
+      let next-is : next ≡ at + length (printed (take i ps) ++ said (getD ps i blank)) = cc (put .0) in
+      record { ends = rw front at next-is; writes = rw front at (put .1) }

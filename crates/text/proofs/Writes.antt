@@ -2,7 +2,7 @@
 use mathlib.Core.Path.{_≡_, refl, sym, ap, _∙_}
 use mathlib.Core.Bool.{Bool, true, false, cond}
 use mathlib.Core.List.{List, [], _∷_, _++_}
-use Prim.Native.Nat.{ℕ, _+_, _≤_, _<_}
+use Prim.Native.Nat.{ℕ, _+_, _-_, _^_, _≤_, _<_, min}
 use native.Mathlib.Nat.{add-zero}
 use native.Mathlib.Omega.{arith}
 use lib.Dec.{leb}
@@ -19,28 +19,26 @@ module _ (len at count : ℕ) where
   pub ends : (end : ℕ) → Ok end ≡ endOf len at count → (at + count ≤ len) × (end ≡ at + count)
   ends end = by-test (leb (at + count) len) refl
     where
-      by-test : (fits : Bool) → leb (at + count) len ≡ fits → Ok end ≡ cond fits (Ok (at + count)) (Err tooShort) → (at + count ≤ len) × (end ≡ at + count)
+      by-test : (fits : Bool) → leb (at + count) len ≡ fits → Ok end ≡ cond fits (Ok (at + count)) (Err (tooShort (at + count))) → (at + count ≤ len) × (end ≡ at + count)
       by-test true fits e = (leb-true (at + count) len fits, cc)
       by-test false short e = let z : _≡_ {A = ℕ} 0 1 = cc in absurd (omega arith)
 
-  pub end-fits : at + count ≤ len → Ok (at + count) ≡ endOf len at count
-  end-fits fits = rw (le-leb (at + count) len fits)
-
-  pub end-short : len < at + count → Err tooShort ≡ endOf len at count
-  end-short short = rw (lt-leb (at + count) len short)
-
-  pub stops : (x : TooShort) → Err x ≡ endOf len at count → len < at + count
+  pub stops : (x : TooShort) → Err x ≡ endOf len at count → (len < at + count) × (x ≡ tooShort (at + count))
   stops x = by-test (leb (at + count) len) refl
     where
-      by-test : (fits : Bool) → leb (at + count) len ≡ fits → Err x ≡ cond fits (Ok (at + count)) (Err tooShort) → len < at + count
+      by-test : (fits : Bool) → leb (at + count) len ≡ fits → Err x ≡ cond fits (Ok (at + count)) (Err (tooShort (at + count))) → (len < at + count) × (x ≡ tooShort (at + count))
       by-test true fits e = let z : _≡_ {A = ℕ} 0 1 = cc in absurd (omega arith)
-      by-test false short e = leb-false (at + count) len short
+      by-test false short e = (leb-false (at + count) len short, cc)
+
+-- the same, of a length that is capped at 64 bits
+pub capped-fits : (len at count : ℕ) → len < 2 ^ 64 - 1 → (capped : ℕ) {end : ℕ} → capped ≡ min count (2 ^ 64 - 1) → Ok end ≡ endOf len at capped → at + count ≤ len
+capped-fits len at count small capped {end} cap here = omega (arith, ends len at capped end here .0)
 
 module _ (old : List ℕ) (at : ℕ) (ys : List ℕ) where
   pub put : (new : List ℕ) → at + length ys ≤ length old → new ≡ over old at ys → Put old at ys new (Ok (at + length ys))
   put new fits is = let t = le-leb (at + length ys) (length old) fits in record { answer = rw t; writes = rw t is }
 
-  pub refused : length old < at + length ys → Put old at ys old (Err tooShort)
+  pub refused : length old < at + length ys → Put old at ys old (Err (tooShort (at + length ys)))
   refused short = let t = lt-leb (at + length ys) (length old) short in record { answer = rw t; writes = rw t }
 
   -- and back: where it fits, a text is put
@@ -48,7 +46,7 @@ module _ (old : List ℕ) (at : ℕ) (ys : List ℕ) where
   done p fits = let t = le-leb (at + length ys) (length old) fits in (rw t at (p .answer), rw t at (p .writes))
 
   pub not-refused : {new : List ℕ} {x : TooShort} → Put old at ys new (Err x) → at + length ys ≤ length old → ⊥
-  not-refused {x = x} p fits = let short = stops (length old) at (length ys) x (p .answer) in omega arith
+  not-refused {x = x} p fits = omega (arith, stops (length old) at (length ys) x (p .answer) .0)
 
   -- after a write to `text[at..end]`, where k is how long that part is
   pub over-part : (k : ℕ) → k ≡ length ys → take at old ++ (ys ++ drop k (drop at old)) ≡ over old at ys
@@ -78,3 +76,15 @@ over-append old at xs ys fits =
     let end : at + length (xs ++ ys) ≡ n + length ys = omega (arith, length-append xs ys) in
     let regrouped : front ++ (ys ++ drop (n + length ys) old) ≡ take at old ++ ((xs ++ ys) ++ drop (n + length ys) old) = simp append-assoc in
     rw (whole, take-at front (drop n old) n long, later, end) regrouped
+
+-- a text put after another is put with it
+module _ (old : List ℕ) (at : ℕ) (xs ys : List ℕ) (room : at + length (xs ++ ys) ≤ length old) {text : List ℕ} {end : ℕ} (before : text ≡ over old at xs) (here : end ≡ at + length xs) (long : length text ≡ length old) where
+  pub after-fits : end + length ys ≤ length text
+  after-fits = omega (arith, length-append xs ys)
+
+  pub after : {new : List ℕ} {r : Result ℕ TooShort} → Put text end ys new r → (r ≡ Ok (at + length (xs ++ ys))) × (new ≡ over old at (xs ++ ys))
+  after p =
+      let put = done text end ys p after-fits in
+      let joined : over text end ys ≡ over old at (xs ++ ys) = rw (before, here) (over-append old at xs ys (omega (arith, length-append xs ys))) in
+      let end-is : end + length ys ≡ at + length (xs ++ ys) = omega (arith, length-append xs ys) in
+      (rw end-is at (put .0), put .1 ∙ joined)

@@ -2,7 +2,7 @@
 use mathlib.Core.Path.{_≡_}
 use mathlib.Core.Bool.{Bool, true, cond}
 use mathlib.Core.List.{List, [], _∷_, _++_}
-use Prim.Native.Nat.{ℕ, _+_, _/_, _%_}
+use Prim.Native.Nat.{ℕ, _+_, _-_, _/_, _%_, _^_, min}
 use lib.Dec.{leb}
 use lib.ListN.{length, take, drop}
 use Rattle.std.specs.Written.{glyph}
@@ -10,12 +10,13 @@ use Rattle.std.specs.declared.result.Result.{Result}
 use Rattle.std.specs.declared.result.Result.the-variants.{Ok, Err}
 use Rattle.text.specs.declared.room.TooShort.{TooShort}
 
-abbrev pub tooShort : TooShort
-tooShort = record {}
+-- so many bytes are needed, as far as 64 bits can say it
+abbrev pub tooShort : ℕ → TooShort
+tooShort need = record { need = min need (2 ^ 64 - 1) }
 
 -- where a text of `count` bytes that begins at `at` ends, if it fits into `len` bytes
 abbrev pub endOf : ℕ → ℕ → ℕ → Result ℕ TooShort
-endOf len at count = cond (leb (at + count) len) (Ok (at + count)) (Err tooShort)
+endOf len at count = cond (leb (at + count) len) (Ok (at + count)) (Err (tooShort (at + count)))
 
 -- old with ys over it from `at` on
 abbrev pub over : List ℕ → ℕ → List ℕ → List ℕ

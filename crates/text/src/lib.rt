@@ -2,5 +2,6 @@
 pub mod decimal;
 pub mod hex;
 pub mod piece;
+pub mod refused;
 pub mod room;
 pub mod word;

@@ -1,8 +1,9 @@
 // Pieces of text, put one after another: all of them or none.
 ghost use mathlib.Core.Path.{_≡_};
+ghost use Prim.Native.Nat.{_-_, _^_, min};
 ghost use lib.ListN.{length};
 ghost use Rattle.text.specs.Pieces.{said, printed};
-ghost use Rattle.text.specs.Puts.{Put, endOf};
+ghost use Rattle.text.specs.Puts.{Put};
 use crate::decimal::decimal_len;
 use crate::decimal::put_decimal;
 use crate::hex::put_hex;
@@ -22,7 +23,7 @@ pub fn put_all(text: &mut [u8], at: usize, pieces: &[Piece<'_>]) -> Result<usize
     ensures { λ r. ⌜ Put (now (text .entry)) at (printed (now (pieces .entry))) (now (text .exit)) r ⌝ }
 {
     // All the room is looked for first, so that a refusal leaves the text as it was.
-    end_of_all(text.len(), at, pieces)?;
+    end_of(text.len(), at, pieces_len(pieces))?;
     let mut end = at;
     for piece in pieces {
         end = put_piece(text, end, piece)?;
@@ -40,14 +41,15 @@ fn put_piece(text: &mut [u8], at: usize, piece: &Piece<'_>) -> Result<usize, Too
     }
 }
 
-fn end_of_all(len: usize, at: usize, pieces: &[Piece<'_>]) -> Result<usize, TooShort>
-    ensures { λ r. ⌜ r ≡ endOf len at (length (printed (now (pieces .entry)))) ⌝ }
+/// How many bytes the pieces have together, or the largest `usize` where that is more.
+fn pieces_len(pieces: &[Piece<'_>]) -> usize
+    ensures { λ r. ⌜ r ≡ min (length (printed (now (pieces .entry)))) (2 ^ 64 - 1) ⌝ }
 {
-    let mut end = end_of(len, at, 0)?;
+    let mut count: usize = 0;
     for piece in pieces {
-        end = end_of(len, end, piece_len(piece))?;
+        count = count.saturating_add(piece_len(piece));
     }
-    Ok(end)
+    count
 }
 
 fn piece_len(piece: &Piece<'_>) -> usize

@@ -15,7 +15,7 @@ returns-in-Break-end c =
     let old = c .args .text .now in
     let bytes = c .args .bytes .now in
     let short = stops (length old) (c .args .at) (2 * length bytes) (c .in-Break-end .field-0 .0) (c .in-Break-end .ensures tt) in
-    rw (p .1) (refused old (c .args .at) (hexadecimal bytes) (rw (length-hexadecimal bytes) short))
+    rw (p .1, p .2, short .1, ← length-hexadecimal bytes) (refused old (c .args .at) (hexadecimal bytes) (rw (length-hexadecimal bytes) (short .0)))
 
 pub loop-i-holds : need.loop-i-holds
 loop-i-holds c = sym (over-none (c .args .text .now) (c .args .at))

@@ -1,0 +1,2 @@
+pub mod LineLengths
+pub mod Sofar

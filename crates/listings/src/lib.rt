@@ -1,0 +1,3 @@
+// Listings: the text that tells what a record file holds.
+mod lines;
+pub mod list;
