@@ -2,7 +2,7 @@
 use mathlib.Core.Path.{_≡_}
 use mathlib.Core.Bool.{cond}
 use mathlib.Core.List.{List, [], _∷_, _++_}
-use Prim.Native.Nat.{ℕ, _+_}
+use Prim.Native.Nat.{ℕ, _≤_}
 use lib.Chars.{codes}
 use lib.Dec.{leb, ltb}
 use lib.ListN.{length, drop}
@@ -49,7 +49,8 @@ told held = joined line (held .entries) ++ closing (held .entries) (held .ending
 abbrev pub listing : List ℕ → List ℕ
 listing bytes = cond (ltb 61_440 (length bytes)) (refusedLine LongInput 0) (told (contents bytes))
 
--- a text under 180,000 bytes is refused and left as it was; later bytes are never touched
+-- a text under 180,000 bytes, which every listing fits, is refused and left as it was; later bytes are never touched
 pub record Listed (bytes old new : List ℕ) (r : Result ℕ Refusal) : Type 0 where
   pub answer : r ≡ cond (leb 180_000 (length old)) (Ok (length (listing bytes))) (Err (ShortList 180_000))
   pub writes : new ≡ cond (leb 180_000 (length old)) (listing bytes ++ drop (length (listing bytes)) old) old
+  pub fits : 180_000 ≤ length old → length (listing bytes) ≤ 180_000
