@@ -4,6 +4,5 @@ pub mod bounds;
 pub mod grades;
 pub mod record_number;
 pub mod shares;
-
 #[cfg(test)]
 mod tests;

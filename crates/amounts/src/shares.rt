@@ -8,6 +8,7 @@ use crate::bounds::Parts;
 use crate::record_number::RecordNumber;
 
 const FULL: u32 = 1_048_576;
+
 const OVER: u32 = FULL + 1;
 
 /// It has no `==`: two numbers past full differ, and are the same amount.

@@ -15,10 +15,38 @@ const SHARES: [u32; 6] = [0, 1, 1_048_575, 1_048_576, 1_048_577, 4_294_967_295];
 const SHARE_TOTALS: [[u32; 6]; 6] = [
     [0, 1, 1_048_575, 1_048_576, 1_048_577, 1_048_577],
     [1, 2, 1_048_576, 1_048_577, 1_048_577, 1_048_577],
-    [1_048_575, 1_048_576, 1_048_577, 1_048_577, 1_048_577, 1_048_577],
-    [1_048_576, 1_048_577, 1_048_577, 1_048_577, 1_048_577, 1_048_577],
-    [1_048_577, 1_048_577, 1_048_577, 1_048_577, 1_048_577, 1_048_577],
-    [1_048_577, 1_048_577, 1_048_577, 1_048_577, 1_048_577, 1_048_577],
+    [
+        1_048_575,
+        1_048_576,
+        1_048_577,
+        1_048_577,
+        1_048_577,
+        1_048_577,
+    ],
+    [
+        1_048_576,
+        1_048_577,
+        1_048_577,
+        1_048_577,
+        1_048_577,
+        1_048_577,
+    ],
+    [
+        1_048_577,
+        1_048_577,
+        1_048_577,
+        1_048_577,
+        1_048_577,
+        1_048_577,
+    ],
+    [
+        1_048_577,
+        1_048_577,
+        1_048_577,
+        1_048_577,
+        1_048_577,
+        1_048_577,
+    ],
 ];
 
 const SHARES_AT_MOST: [[bool; 6]; 6] = [
@@ -120,8 +148,14 @@ fn the_larger_share_is_the_later_edge() -> Result<(), Fail> {
 #[test]
 fn shares_are_shared_out() -> Result<(), Fail> {
     for row in SHARE_OUTS {
-        let own = Bounds { low: share(row[1]), high: share(row[2]) };
-        let others = Bounds { low: share(row[3]), high: share(row[4]) };
+        let own = Bounds {
+            low: share(row[1]),
+            high: share(row[2]),
+        };
+        let others = Bounds {
+            low: share(row[3]),
+            high: share(row[4]),
+        };
         let parts = share(row[0]).share_out(own, others);
         check_eq(parts.own.number, row[5])?;
         check_eq(parts.others.number, row[6])?;
@@ -175,8 +209,14 @@ fn grades_are_ordered_as_numbers() -> Result<(), Fail> {
 #[test]
 fn grades_are_shared_out() -> Result<(), Fail> {
     for row in GRADE_OUTS {
-        let own = Bounds { low: grade(row[1]), high: grade(row[2]) };
-        let others = Bounds { low: grade(row[3]), high: grade(row[4]) };
+        let own = Bounds {
+            low: grade(row[1]),
+            high: grade(row[2]),
+        };
+        let others = Bounds {
+            low: grade(row[3]),
+            high: grade(row[4]),
+        };
         let parts = grade(row[0]).share_out(own, others);
         check_eq(parts.own.number, row[5])?;
         check_eq(parts.others.number, row[6])?;

@@ -15,7 +15,7 @@ use Rattle.records.proofs.Contents.{step}
 use Rattle.records.proofs.Counting.{all-counted, counts-push}
 use Rattle.records.proofs.Cursor.{stands, name-short}
 use Rattle.records.specs.Contents.{Contents, andThen, contents, contentsFrom}
-use Rattle.records.specs.Counts.{andOne, countsOf}
+use Rattle.records.specs.Counts.{withOne, countsOf}
 use Rattle.records.specs.Faults.{refusalOf}
 use Rattle.records.specs.Format.{Entry, band, name, recordAt}
 use Rattle.records.specs.declared.counts.Counts.{Counts}
@@ -99,7 +99,7 @@ module _ (bytes old : List ℕ) (room : 180_000 ≤ length old) (few : length by
     pub next-fits : end + length (line e) ≤ length text
     next-fits = after-fits old 0 (joined line (sofar .seen)) (line e) next-room (sofar .writes) (sofar .ends) long
 
-    pub next : {new input-after : List ℕ} {next-end next-cursor : ℕ} {next-counts : Counts} → Put text end (line e) new (Ok next-end) → input-after ≡ input → next-cursor ≡ cursor + 12 → next-counts ≡ andOne counts e → Sofar bytes old input-after next-cursor new next-end next-counts
+    pub next : {new input-after : List ℕ} {next-end next-cursor : ℕ} {next-counts : Counts} → Put text end (line e) new (Ok next-end) → input-after ≡ input → next-cursor ≡ cursor + 12 → next-counts ≡ withOne counts e → Sofar bytes old input-after next-cursor new next-end next-counts
     next {next-end = next-end} p same moved counted =
         let seen : List Entry = sofar .seen ++ (e ∷ []) in
         let more : joined line seen ≡ joined line (sofar .seen) ++ line e = sym (joined-more line [] (sofar .seen) e) in
@@ -116,5 +116,5 @@ module _ (bytes old : List ℕ) (room : 180_000 ≤ length old) (few : length by
           short = omega (arith, ap length more ∙ length-append (joined line (sofar .seen)) (line e), length-push (sofar .seen) e, short, sofar .short);
           at = omega (arith, moved, sofar .at, length-push (sofar .seen) e);
           within = omega (arith, moved, whole-record);
-          counted = counted ∙ ap (λ (c : Counts). andOne c e) (sofar .counted) ∙ counts-push (sofar .seen) e (omega (arith, few-seen));
+          counted = counted ∙ ap (λ (c : Counts). withOne c e) (sofar .counted) ∙ counts-push (sofar .seen) e (omega (arith, few-seen));
         }

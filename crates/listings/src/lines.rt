@@ -11,7 +11,7 @@ use text::piece::Piece;
 use text::piece::put_all;
 use text::room::TooShort;
 
-pub fn put_record(text: &mut [u8], at: usize, entry: &Record<'_>) -> Result<usize, TooShort>
+pub(crate) fn put_record(text: &mut [u8], at: usize, entry: &Record<'_>) -> Result<usize, TooShort>
     ensures writes { λ r. ⌜ Put (now (text .entry)) at (line (said (now (entry .entry)))) (now (text .exit)) r ⌝ }
     ensures short { λ _. ⌜ length (line (said (now (entry .entry)))) ≤ bound (said (now (entry .entry))) ⌝ }
 {
@@ -65,7 +65,7 @@ fn put_name(text: &mut [u8], at: usize, state: u8, bytes: &[u8]) -> Result<usize
     put_all(text, at, &line)
 }
 
-pub fn put_counts(text: &mut [u8], at: usize, counts: Counts) -> Result<usize, TooShort>
+pub(crate) fn put_counts(text: &mut [u8], at: usize, counts: Counts) -> Result<usize, TooShort>
     ensures { λ r. ⌜ Put (now (text .entry)) at (countsLine counts) (now (text .exit)) r ⌝ }
 {
     let line = [

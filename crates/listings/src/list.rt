@@ -53,6 +53,6 @@ fn put_records(text: &mut [u8], records: &[u8]) -> Result<usize, TooShort>
             return put_counts(text, end, counts);
         };
         end = put_record(text, end, &entry)?;
-        counts = counts.and(&entry);
+        counts = counts.with(&entry);
     }
 }

@@ -27,6 +27,6 @@ module _ (bytes : List ℕ) where
   step at =
       rw (add-one (length bytes))
       (⊎-elim
-        (λ (more : at < length bytes). ap (andThen (recordAt bytes at)) (enough (length bytes) (at + 12) (omega arith)))
-        (λ (none : length bytes ≤ at). rw (at-end bytes at none))
-        (cases-lt at (length bytes)))
+      (λ (more : at < length bytes). ap (andThen (recordAt bytes at)) (enough (length bytes) (at + 12) (omega arith)))
+      (λ (none : length bytes ≤ at). rw (at-end bytes at none))
+      (cases-lt at (length bytes)))

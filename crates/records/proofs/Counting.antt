@@ -5,7 +5,7 @@ use Prim.Native.Nat.{ℕ, _+_, _-_, _^_, _≤_, _<_}
 use native.Mathlib.Omega.{arith}
 use lib.ListN.{length}
 use Rattle.records.specs.declared.counts.Counts.{Counts}
-use Rattle.records.specs.Counts.{andOne, bandCount, nameCount, countsOf}
+use Rattle.records.specs.Counts.{withOne, bandCount, nameCount, countsOf}
 use Rattle.records.specs.Format.{Entry, band, name}
 
 -- every record is a band or a name
@@ -28,7 +28,7 @@ same-counts : {a b c d : ℕ} → a ≡ b → c ≡ d → _≡_ {A = Counts} (re
 same-counts p q = λ i. record { bands = p i; names = q i }
 
 -- as long as the count stays below the largest number
-pub counts-push : (es : List Entry) (e : Entry) → length es < 2 ^ 64 - 1 → andOne (countsOf es) e ≡ countsOf (es ++ (e ∷ []))
+pub counts-push : (es : List Entry) (e : Entry) → length es < 2 ^ 64 - 1 → withOne (countsOf es) e ≡ countsOf (es ++ (e ∷ []))
 counts-push es (band source target low high) few =
     let e : Entry = band source target low high in
     same-counts (omega (arith, bands-push es e, all-counted es)) (omega (arith, names-push es e))

@@ -25,8 +25,8 @@ module _ (test : ℕ → Bool) where
       ⊎-elim
       (λ (here : from ≡ p). rw (here, is))
       (λ (later : from ≡ p → ⊥).
-        let first : test from ≡ false = before from (omega arith) (omega arith) in
-        rw first (lowest-is (suc from) n p (omega arith) (omega arith) is (λ k above below. before k (omega arith) below)))
+      let first : test from ≡ false = before from (omega arith) (omega arith) in
+      rw first (lowest-is (suc from) n p (omega arith) (omega arith) is (λ k above below. before k (omega arith) below)))
       (cases-eq from p)
 
   none-passes : (from n : ℕ) → lowest test from n ≡ None → (k : ℕ) → from ≤ k → k < from + n → test k ≡ false
@@ -36,8 +36,8 @@ module _ (test : ℕ → Bool) where
       ⊎-elim
       (λ (first : test from ≡ true). let some : Some from ≡ None = rw first at none in let z : _≡_ {A = ℕ} 0 1 = cc in absurd (omega arith))
       (λ (first : test from ≡ false).
-        let later : lowest test (suc from) n ≡ None = rw first at none in
-        ⊎-elim (λ (here : from ≡ k). rw here at first) (λ (past : from ≡ k → ⊥). none-passes (suc from) n later k (omega arith) (omega arith)) (cases-eq from k))
+      let later : lowest test (suc from) n ≡ None = rw first at none in
+      ⊎-elim (λ (here : from ≡ k). rw here at first) (λ (past : from ≡ k → ⊥). none-passes (suc from) n later k (omega arith) (omega arith)) (cases-eq from k))
       (cases-bool (test from))
 
 -- p is the lowest wrong position of r

@@ -11,9 +11,9 @@ noneYet = record { bands = 0; names = 0 }
 abbrev pub upOne : ℕ → ℕ
 upOne n = min (n + 1) (2 ^ 64 - 1)
 
-abbrev pub andOne : Counts → Entry → Counts
-andOne c (band source target low high) = record { bands = upOne (c .bands); names = c .names }
-andOne c (name state place bytes) = record { bands = c .bands; names = upOne (c .names) }
+abbrev pub withOne : Counts → Entry → Counts
+withOne c (band source target low high) = record { bands = upOne (c .bands); names = c .names }
+withOne c (name state place bytes) = record { bands = c .bands; names = upOne (c .names) }
 
 abbrev pub bandCount : List Entry → ℕ
 bandCount [] = 0

@@ -1,6 +1,6 @@
 // How many records of each kind were read.
 ghost use mathlib.Core.Path.{_≡_};
-ghost use Rattle.records.specs.Counts.{andOne, noneYet};
+ghost use Rattle.records.specs.Counts.{withOne, noneYet};
 ghost use Rattle.records.specs.Reading.{said};
 use crate::record::Record;
 
@@ -18,8 +18,8 @@ impl Counts {
     }
 
     /// These and one record more. A count stops at the largest `usize`, which no input in memory reaches.
-    pub fn and(self, entry: &Record<'_>) -> Counts
-        ensures { λ r. ⌜ r ≡ andOne self (said (now (entry .entry))) ⌝ }
+    pub fn with(self, entry: &Record<'_>) -> Counts
+        ensures { λ r. ⌜ r ≡ withOne self (said (now (entry .entry))) ⌝ }
     {
         match entry {
             Record::Band { .. } => Counts {

@@ -3,17 +3,18 @@ ghost use mathlib.Core.Path.{_≡_};
 ghost use Prim.Native.Nat.{_+_, _^_, _<_, _≤_};
 ghost use lib.ListN.{length};
 ghost use Rattle.records.specs.Format.{byte, bandIn, nameIn};
-ghost use Rattle.records.specs.Reading.{FirstNonzero, Held, HeldAs};
+ghost use Rattle.records.specs.Twelve.{FirstNonzero, Held, HeldAs};
 use crate::fault::RecordFault;
 use crate::record::Record;
 
-pub const RECORD_BYTES: usize = 12;
+pub(crate) const RECORD_BYTES: usize = 12;
 
 const BAND: u8 = 0x42;
+
 const NAME: u8 = 0x4E;
 
 /// The record in twelve bytes that begin at `at` in the input.
-pub fn whole_record(bytes: &[u8], at: usize) -> Result<Record<'_>, RecordFault>
+pub(crate) fn whole_record(bytes: &[u8], at: usize) -> Result<Record<'_>, RecordFault>
     requires whole { ⌜ length (now bytes) ≡ 12 ⌝ }
     requires within { ⌜ at + 12 < 2 ^ 64 ⌝ }
     ensures { λ r. ⌜ Held (bytes .entry) at r ⌝ }

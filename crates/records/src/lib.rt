@@ -4,3 +4,6 @@ pub mod fault;
 mod format;
 pub mod reader;
 pub mod record;
+
+#[cfg(test)]
+mod tests;

@@ -73,11 +73,11 @@ impl Refusal {
             Refusal::WrongByte { position } => position,
             Refusal::ShortList { need } => need,
             Refusal::Ranked { rank } => usize::from(rank),
-            Refusal::LongInput => 0,
-            Refusal::NoStates => 0,
-            Refusal::NoVerdict => 0,
-            Refusal::Standing => 0,
-            Refusal::NoFreePlace => 0,
+            Refusal::LongInput
+            | Refusal::NoStates
+            | Refusal::NoVerdict
+            | Refusal::Standing
+            | Refusal::NoFreePlace => 0,
         }
     }
 }

@@ -9,7 +9,12 @@ use crate::room::TooShort;
 use refusals::Refusal;
 
 /// Writes the line of `refusal` at the record with this index, from `at` on, and answers where it ends.
-pub fn put_refused(text: &mut [u8], at: usize, refusal: Refusal, index: usize) -> Result<usize, TooShort>
+pub fn put_refused(
+    text: &mut [u8],
+    at: usize,
+    refusal: Refusal,
+    index: usize,
+) -> Result<usize, TooShort>
     ensures writes { λ r. ⌜ Put (now (text .entry)) at (refusedLine refusal index) (now (text .exit)) r ⌝ }
     ensures short { λ _. ⌜ length (refusedLine refusal index) ≤ 67 ⌝ }
 {

@@ -66,4 +66,4 @@ pub records-again : need.records-again
 records-again c =
     let read = rw (c .in-Some .is) at (c .in-Ok .ensures tt) in
     let put = c .in-Continue-end .ensures tt in
-    next (c .args .records .now) (c .args .text .now) (c .pre .room) (c .pre .few) (c .records .inv) (c .records .kept .text) (said (c .in-Some .entry)) (read .answer) (put .short) (put .writes) (ap (λ b. b .now) (read .input)) (read .cursor) (c .and-counts .ensures)
+    next (c .args .records .now) (c .args .text .now) (c .pre .room) (c .pre .few) (c .records .inv) (c .records .kept .text) (said (c .in-Some .entry)) (read .answer) (put .short) (put .writes) (ap (λ b. b .now) (read .input)) (read .cursor) (c .with-counts .ensures)
