@@ -8,7 +8,7 @@ use native.Mathlib.Omega.{arith}
 use Rattle.std.proofs.shelf.Tests.{cases-bool, cases-eq, cases-lt}
 use Rattle.std.proofs.shelf.Ways.{tells}
 use Rattle.std.specs.declared.option.Option.the-variants.{None, Some}
-use Rattle.records.specs.Format.{byte, lowest, wrongAt, wrongPosition}
+use Rattle.records.specs.Format.{byte, nameLength, lowest, wrongAt, wrongPosition}
 
 module _ (test : ℕ → Bool) where
   lowest-none : (from n : ℕ) → ((k : ℕ) → from ≤ k → k < from + n → test k ≡ false) → lowest test from n ≡ None
@@ -60,10 +60,10 @@ module _ (r : List ℕ) (kind : byte r 0 ≡ 0x4E) where
   pub few-named : wrongPosition r ≡ None → byte r 2 ≤ 8
   few-named none = let right : wrongAt r 2 ≡ false = none-passes (wrongAt r) 0 12 none 2 (omega arith) (omega arith) in grind (arith, tells)
 
-  pub length-wrong : (byte r 2 < 1) ⊎ (8 < byte r 2) → wrongPosition r ≡ Some 2
+  pub length-wrong : nameLength (byte r 2) ≡ false → wrongPosition r ≡ Some 2
   length-wrong out = wrong-is r 2 (omega arith) (grind (arith, tells)) (λ k below. grind (arith, tells))
 
-  module _ (some : 1 ≤ byte r 2) (few : byte r 2 ≤ 8) where
+  module _ (good : nameLength (byte r 2) ≡ true) where
     pub third-wrong : (byte r 3 ≡ 0 → ⊥) → wrongPosition r ≡ Some 3
     third-wrong wrong = wrong-is r 3 (omega arith) (grind (arith, tells)) (λ k below. grind (arith, tells))
 

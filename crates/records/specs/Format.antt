@@ -34,8 +34,11 @@ abbrev pub mustBeZero : List ℕ → ℕ → Bool
 mustBeZero r p = eqb p 3 || (isName r && leb (4 + byte r 2) p)
 
 -- a name has 1 to 8 bytes
+abbrev pub nameLength : ℕ → Bool
+nameLength n = leb 1 n && leb n 8
+
 abbrev pub wrongLength : List ℕ → Bool
-wrongLength r = isName r && not (leb 1 (byte r 2) && leb (byte r 2) 8)
+wrongLength r = isName r && not (nameLength (byte r 2))
 
 abbrev pub wrongAt : List ℕ → ℕ → Bool
 wrongAt r p = (mustBeZero r p && not (eqb (byte r p) 0)) || (eqb p 2 && wrongLength r)

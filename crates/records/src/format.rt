@@ -2,8 +2,10 @@
 ghost use mathlib.Core.Path.{_≡_};
 ghost use Prim.Native.Nat.{_+_, _^_, _<_, _≤_};
 ghost use lib.ListN.{length};
-ghost use Rattle.records.specs.Format.{byte, bandIn, nameIn};
-ghost use Rattle.records.specs.Twelve.{FirstNonzero, Held, HeldAs};
+ghost use Rattle.std.specs.declared.result.Result.the-variants.{Ok};
+ghost use Rattle.records.specs.Format.{byte, number, nameLength, bandIn, nameIn};
+ghost use Rattle.records.specs.Reading.{said};
+ghost use Rattle.records.specs.Twelve.{FirstNonzero, Held, HeldAs, InRecord, StandsAt};
 use crate::fault::RecordFault;
 use crate::record::Record;
 
@@ -13,8 +15,23 @@ const BAND: u8 = 0x42;
 
 const NAME: u8 = 0x4E;
 
+/// What stands at `at`: a record, the end, or a fault.
+pub(crate) fn record_at(bytes: &[u8], at: usize) -> Result<Option<Record<'_>>, RecordFault>
+    ensures { λ r. ⌜ StandsAt (bytes .entry) at r ⌝ }
+{
+    if at >= bytes.len() {
+        return Ok(None);
+    }
+    let left = bytes.len() - at;
+    if left < RECORD_BYTES {
+        return Err(RecordFault::Partial { bytes: left });
+    }
+    let found = whole_record(&bytes[at..at + RECORD_BYTES], at)?;
+    Ok(Some(found))
+}
+
 /// The record in twelve bytes that begin at `at` in the input.
-pub(crate) fn whole_record(bytes: &[u8], at: usize) -> Result<Record<'_>, RecordFault>
+fn whole_record(bytes: &[u8], at: usize) -> Result<Record<'_>, RecordFault>
     requires whole { ⌜ length (now bytes) ≡ 12 ⌝ }
     requires within { ⌜ at + 12 < 2 ^ 64 ⌝ }
     ensures { λ r. ⌜ Held (bytes .entry) at r ⌝ }
@@ -34,12 +51,27 @@ fn band_record(bytes: &[u8]) -> Result<Record<'_>, RecordFault>
     if bytes[3] != 0 {
         return Err(RecordFault::WrongByte { position: 3 });
     }
-    Ok(Record::Band {
+    Ok(band_in(bytes))
+}
+
+fn band_in(bytes: &[u8]) -> Record<'_>
+    requires { ⌜ length (now bytes) ≡ 12 ⌝ }
+    ensures says { λ r. ⌜ said r ≡ bandIn (now (bytes .entry)) ⌝ }
+    ensures in_record { λ r. ⌜ InRecord (bytes .entry) (Ok r) ⌝ }
+{
+    Record::Band {
         source: bytes[1],
         target: bytes[2],
-        low: u32::from_le_bytes([bytes[4], bytes[5], bytes[6], bytes[7]]),
-        high: u32::from_le_bytes([bytes[8], bytes[9], bytes[10], bytes[11]]),
-    })
+        low: number_at(bytes, 4),
+        high: number_at(bytes, 8),
+    }
+}
+
+fn number_at(bytes: &[u8], p: usize) -> u32
+    requires { ⌜ p + 4 ≤ length (now bytes) ⌝ }
+    ensures { λ r. ⌜ r ≡ number (now (bytes .entry)) p ⌝ }
+{
+    u32::from_le_bytes([bytes[p], bytes[p + 1], bytes[p + 2], bytes[p + 3]])
 }
 
 fn name_record(bytes: &[u8], at: usize) -> Result<Record<'_>, RecordFault>
@@ -48,21 +80,29 @@ fn name_record(bytes: &[u8], at: usize) -> Result<Record<'_>, RecordFault>
     requires within { ⌜ at + 12 < 2 ^ 64 ⌝ }
     ensures { λ r. ⌜ HeldAs (bytes .entry) (nameIn (now (bytes .entry)) at) r ⌝ }
 {
-    let length = usize::from(bytes[2]);
-    if length < 1 || length > 8 {
+    let length = bytes[2];
+    if !is_name_length(length) {
         return Err(RecordFault::WrongByte { position: 2 });
     }
     if bytes[3] != 0 {
         return Err(RecordFault::WrongByte { position: 3 });
     }
-    if let Some(position) = first_nonzero(bytes, 4 + length) {
+    let end = 4 + usize::from(length);
+    if let Some(position) = first_nonzero(bytes, end) {
         return Err(RecordFault::WrongByte { position });
     }
     Ok(Record::Name {
         state: bytes[1],
         place: at + 4,
-        name: &bytes[4..4 + length],
+        name: &bytes[4..end],
     })
+}
+
+fn is_name_length(length: u8) -> bool
+    ensures { λ r. ⌜ r ≡ nameLength length ⌝ }
+{
+    // `&` has no branch, so the proof has one way.
+    (1 <= length) & (length <= 8)
 }
 
 /// The lowest position from `from` on whose byte is not 00.

@@ -4,6 +4,5 @@ pub mod fault;
 mod format;
 pub mod reader;
 pub mod record;
-
 #[cfg(test)]
 mod tests;

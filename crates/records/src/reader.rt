@@ -3,7 +3,7 @@ ghost use mathlib.Core.Path.{_≡_};
 ghost use Rattle.records.specs.Reading.{Next};
 use crate::fault::RecordFault;
 use crate::format::RECORD_BYTES;
-use crate::format::whole_record;
+use crate::format::record_at;
 use crate::record::Record;
 
 #[derive(Clone, Copy)]
@@ -20,21 +20,14 @@ impl<'a> Reader<'a> {
         Reader { bytes, cursor: 0 }
     }
 
-    /// The record at the cursor, or `None` at the end. On a fault the cursor stays.
+    /// The record at the cursor, or `None` at the end. Only past a record does the cursor move.
     pub fn next(&mut self) -> Result<Option<Record<'a>>, RecordFault>
         ensures { λ r. ⌜ Next (now (self .entry)) (now (self .exit)) r ⌝ }
     {
-        let bytes = self.bytes;
-        let at = self.cursor;
-        if at >= bytes.len() {
-            return Ok(None);
+        let found = record_at(self.bytes, self.cursor)?;
+        if found.is_some() {
+            self.cursor += RECORD_BYTES;
         }
-        let left = bytes.len() - at;
-        if left < RECORD_BYTES {
-            return Err(RecordFault::Partial { bytes: left });
-        }
-        let record = whole_record(&bytes[at..at + RECORD_BYTES], at)?;
-        self.cursor = at + RECORD_BYTES;
-        Ok(Some(record))
+        Ok(found)
     }
 }

@@ -14,8 +14,20 @@ use refusals::RefusalPartialEq;
 use std::test::*;
 
 const BAND: [u8; 12] = [
-    0x42, 1, 2, 0, 0x78, 0x56, 0x34, 0x12, 0xff, 0xff, 0xff, 0xff,
+    0x42,
+    1,
+    2,
+    0,
+    0x78,
+    0x56,
+    0x34,
+    0x12,
+    0xff,
+    0xff,
+    0xff,
+    0xff,
 ];
+
 const NAME: [u8; 12] = [0x4E, 9, 3, 0, 0x61, 0, 0xff, 0, 0, 0, 0, 0];
 
 fn fault_in(bytes: &[u8]) -> Option<RecordFault> {
@@ -37,12 +49,14 @@ fn an_empty_input_has_no_record() -> Result<(), Fail> {
 fn a_band_has_its_least_significant_byte_first() -> Result<(), Fail> {
     let mut reader = Reader::new(&BAND);
     match reader.next()? {
-        Some(Record::Band {
-            source,
-            target,
-            low,
-            high,
-        }) => {
+        Some(
+            Record::Band {
+                source,
+                target,
+                low,
+                high,
+            },
+        ) => {
             check_eq(source, 1)?;
             check_eq(target, 2)?;
             check_eq(low, 0x1234_5678)?;

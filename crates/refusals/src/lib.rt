@@ -81,3 +81,6 @@ impl Refusal {
         }
     }
 }
+
+#[cfg(test)]
+mod tests;

@@ -4,9 +4,7 @@ use native.Mathlib.Omega.{arith}
 use lib.ListN.{length, length-append}
 use Rattle.std.proofs.shelf.Decimals.{length-decimal-le}
 use Rattle.std.specs.Written.{decimal}
-use Rattle.refusals.specs.Numbers.{numberOf, placeOf}
-use Rattle.refusals.specs.declared.Refusal.{Refusal}
-use Rattle.text.specs.Refused.{refusedLine}
+use Rattle.text.specs.Refused.{refusedText}
 
 pub digits-8 : (n : ℕ) → n < 2 ^ 8 → length (decimal n) ≤ 3
 digits-8 n fits = length-decimal-le 3 n (omega arith) (omega arith) (omega arith)
@@ -17,6 +15,6 @@ digits-32 n fits = length-decimal-le 10 n (omega arith) (omega arith) (omega ari
 pub digits-64 : (n : ℕ) → n < 2 ^ 64 → length (decimal n) ≤ 20
 digits-64 n fits = length-decimal-le 20 n (omega arith) (omega arith) fits
 
-pub refused-short : (refusal : Refusal) (index : ℕ) → numberOf refusal < 2 ^ 8 → placeOf refusal < 2 ^ 64 → index < 2 ^ 64 → length (refusedLine refusal index) ≤ 67
-refused-short refusal index number place fits =
-    simp length-append (omega (arith, digits-8 (numberOf refusal) number, digits-64 (placeOf refusal) place, digits-64 index fits))
+pub refused-short : (number index place : ℕ) → number < 2 ^ 8 → index < 2 ^ 64 → place < 2 ^ 64 → length (refusedText number index place) ≤ 67
+refused-short number index place fn fi fp =
+    simp length-append (omega (arith, digits-8 number fn, digits-64 index fi, digits-64 place fp))

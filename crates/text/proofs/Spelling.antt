@@ -3,9 +3,11 @@ use mathlib.Core.Path.{_≡_, refl, sym, ap, _∙_}
 use mathlib.Core.List.{List, [], _∷_, _++_, append-assoc, append-nil}
 use Prim.Native.Nat.{ℕ, _+_, _-_, _/_, _%_, _^_, _≤_, _<_}
 use native.Mathlib.Omega.{arith}
-use lib.ListN.{length, drop, set, length-append, length-set}
+use lib.ListN.{length, drop, set, length-append, length-drop, length-set}
 use Rattle.std.proofs.shelf.Decimals.{decimal-digit, decimal-step, decimal-some, length-decimal-le}
 use Rattle.std.proofs.shelf.Lists.{drop-set, drop-all}
+use Rattle.std.proofs.shelf.Parts.{between-to-end}
+use Rattle.std.specs.Holes.{between}
 use Rattle.std.specs.Written.{decimal}
 
 -- the digits of `left`, and then what stands from `first` on, are those of `number`
@@ -34,11 +36,22 @@ module _ (digits : List ℕ) (first left number : ℕ) (long : length digits ≡
       let next : first - 1 + 1 ≡ first = omega (arith, some-left) in
       drop-set digits (first - 1) (48 + left % 10) below ∙ ap (λ (k : ℕ). (48 + left % 10) ∷ drop k digits) next
 
-  pub last-digit : left / 10 ≡ 0 → drop (first - 1) (set digits (first - 1) (48 + left % 10)) ≡ decimal number
-  last-digit none =
-      let small : left < 10 = omega arith in
-      let only : left % 10 ≡ left = omega arith in
-      from-digit ∙ rw only (rw (decimal-digit left small) at (old .whole))
+  -- the last turn spells the whole number, from the new digit to the end
+  module _ (none : left / 10 ≡ 0) where
+    whole-number : drop (first - 1) (set digits (first - 1) (48 + left % 10)) ≡ decimal number
+    whole-number =
+        let small : left < 10 = omega arith in
+        let only : left % 10 ≡ left = omega arith in
+        from-digit ∙ rw only (rw (decimal-digit left small) at (old .whole))
+
+    set-long : length (set digits (first - 1) (48 + left % 10)) ≡ 20
+    set-long = length-set digits (first - 1) (48 + left % 10) ∙ long
+
+    pub last-digit : between (first - 1) 20 (set digits (first - 1) (48 + left % 10)) ≡ decimal number
+    last-digit = between-to-end (set digits (first - 1) (48 + left % 10)) (first - 1) 20 (omega (arith, set-long)) ∙ whole-number
+
+    pub last-place : first - 1 + length (decimal number) ≡ 20
+    last-place = omega (arith, ap length whole-number, length-drop (first - 1) (set digits (first - 1) (48 + left % 10)), set-long, some-left, old .within)
 
   pub one-digit : (left / 10 ≡ 0 → ⊥) → Spelled (set digits (first - 1) (48 + left % 10)) (first - 1) (left / 10) number
   one-digit more =

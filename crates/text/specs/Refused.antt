@@ -6,6 +6,9 @@ use Rattle.std.specs.Written.{decimal}
 use Rattle.refusals.specs.Numbers.{numberOf, placeOf}
 use Rattle.refusals.specs.declared.Refusal.{Refusal}
 
+abbrev pub refusedText : ℕ → ℕ → ℕ → List ℕ
+refusedText number index place =
+    codes "refused " ++ (decimal number ++ (codes " record " ++ (decimal index ++ (codes " place " ++ (decimal place ++ codes "\n")))))
+
 abbrev pub refusedLine : Refusal → ℕ → List ℕ
-refusedLine refusal index =
-    codes "refused " ++ (decimal (numberOf refusal) ++ (codes " record " ++ (decimal index ++ (codes " place " ++ (decimal (placeOf refusal) ++ codes "\n")))))
+refusedLine refusal index = refusedText (numberOf refusal) index (placeOf refusal)

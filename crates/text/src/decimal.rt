@@ -1,7 +1,8 @@
 // Decimal numbers, as `{}` prints them.
 ghost use mathlib.Core.Path.{_≡_};
-ghost use Prim.Native.Nat.{_≤_};
-ghost use lib.ListN.{length, drop};
+ghost use Prim.Native.Nat.{_+_};
+ghost use lib.ListN.{length};
+ghost use Rattle.std.specs.Holes.{between};
 ghost use Rattle.std.specs.Written.{decimal};
 ghost use Rattle.text.specs.Puts.{Put};
 use crate::room::TooShort;
@@ -30,8 +31,8 @@ pub(crate) fn decimal_len(number: u64) -> usize
 /// Spells `number` at the end of `digits`, and answers where it begins.
 fn spell(digits: &mut [u8], number: u64) -> usize
     requires { ⌜ length (now digits) ≡ 20 ⌝ }
-    ensures spelled { λ r. ⌜ drop r (now (digits .exit)) ≡ decimal number ⌝ }
-    ensures within { λ r. ⌜ r ≤ 20 ⌝ }
+    ensures spelled { λ r. ⌜ between r 20 (now (digits .exit)) ≡ decimal number ⌝ }
+    ensures long { λ r. ⌜ r + length (decimal number) ≡ 20 ⌝ }
 {
     let mut left = number;
     let mut first = DIGITS;

@@ -4,4 +4,6 @@ pub mod hex;
 pub mod piece;
 pub mod refused;
 pub mod room;
+#[cfg(test)]
+mod tests;
 pub mod word;

@@ -1,7 +1,7 @@
 use Prim.Native.Nat.{_≤_}
 use native.Mathlib.Omega.{arith}
 use mathlib.Core.Path.{_∙_}
-use Rattle.text.proofs.Spelling.{none-spelled, some-left, last-digit, one-digit}
+use Rattle.text.proofs.Spelling.{none-spelled, some-left, last-digit, last-place, one-digit}
 use Rattle.text.proofs.decimal.spell.Needs as need
 
 pub digits-holds : need.digits-holds
@@ -13,7 +13,7 @@ sub-first c = some-left (c .digits .digits) (c .digits .first) (c .digits .left)
 pub returns-then-left-eq0 : need.returns-then-left-eq0
 returns-then-left-eq0 c = record {
   spelled = last-digit (c .digits .digits) (c .digits .first) (c .digits .left) (c .args .number) (omega arith) (c .digits .inv) (c .if-left-eq0 .taken);
-  within = omega (arith, c .digits .inv .within);
+  long = last-place (c .digits .digits) (c .digits .first) (c .digits .left) (c .args .number) (omega arith) (c .digits .inv) (c .if-left-eq0 .taken);
 }
 
 pub digits-less : need.digits-less

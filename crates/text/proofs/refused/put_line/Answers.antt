@@ -1,0 +1,10 @@
+use native.Mathlib.Omega.{arith}
+use borrow.Author.Needs.{needs}
+use Rattle.text.proofs.DigitCounts.{refused-short}
+use Rattle.text.proofs.refused.put_line.Needs as need
+
+pub returns : need.returns
+returns c = record {
+  writes = search needs;
+  short = refused-short (c .args .number) (c .args .index) (c .args .place) (omega arith) (omega arith) (omega arith);
+}
