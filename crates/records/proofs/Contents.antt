@@ -1,5 +1,5 @@
 -- The contents of an input, one record further.
-use mathlib.Core.Path.{_≡_, refl, sym, ap, _∙_}
+use mathlib.Core.Path.{_≡_, ap}
 use mathlib.Core.Logic.{⊎-elim}
 use mathlib.Core.List.{List}
 use Prim.Native.Nat.{ℕ, zero, suc, _+_, _-_, _≤_, _<_}
@@ -7,7 +7,7 @@ use native.Mathlib.Numerals.{add-one}
 use native.Mathlib.Omega.{arith}
 use lib.ListN.{length}
 use Rattle.std.proofs.shelf.Tests.{cases-lt}
-use Rattle.records.specs.Contents.{Contents, andThen, contentsIn, contentsFrom}
+use Rattle.records.specs.Contents.{andThen, contentsIn, contentsFrom}
 use Rattle.records.specs.Format.{recordAt}
 use Rattle.records.proofs.Cursor.{at-end}
 

@@ -18,7 +18,7 @@ use Rattle.records.specs.declared.record.Record.{Record}
 use Rattle.records.specs.declared.record.Record.the-variants.{Band, Name}
 use Rattle.records.specs.Format.{Entry, name, byte, isBand, isName, wrongPosition, bandIn, nameIn, unlessWrong, found, recordOf, recordAt}
 use Rattle.records.specs.Reading.{InPlace}
-use Rattle.records.specs.Twelve.{InRecord, Held}
+use Rattle.records.specs.Twelve.{Held}
 use Rattle.records.proofs.Positions.{few-named}
 
 found-record : (x : Result Entry RecordFault) {e : Entry} → found x ≡ Ok (Some e) → x ≡ Ok e

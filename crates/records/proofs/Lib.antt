@@ -1,3 +1,4 @@
+-- The lemmas of this crate: positions in a record, what stands at a cursor, whole inputs, counts.
 pub mod Contents
 pub mod Counting
 pub mod Cursor

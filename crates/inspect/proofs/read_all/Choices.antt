@@ -1,3 +1,4 @@
+-- `read_all`: each turn reads at least one byte.
 use Prim.Native.Nat.{_-_, _≤_}
 use lib.ListN.{length}
 use Rattle.inspect.proofs.read_all.Given as given

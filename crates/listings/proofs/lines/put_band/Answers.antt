@@ -1,3 +1,4 @@
+-- `put_band`: its numbers have 8 and 32 bits, so the line is short.
 use native.Mathlib.Omega.{arith}
 use borrow.Author.Needs.{needs}
 use Rattle.listings.proofs.LineLengths.{band-short}

@@ -1,3 +1,4 @@
+-- `put_name`: the state has 8 bits, so the line is little longer than the name.
 use native.Mathlib.Omega.{arith}
 use borrow.Author.Needs.{needs}
 use Rattle.listings.proofs.LineLengths.{name-short}

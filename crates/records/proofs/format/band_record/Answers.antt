@@ -1,5 +1,5 @@
+-- `band_record`: byte 3 alone can be wrong.
 use mathlib.Core.Path.{ap}
-use borrow.Author.Needs.{needs}
 use Rattle.std.specs.declared.result.Result.the-variants.{Ok}
 use Rattle.records.proofs.Positions.{band-wrong, band-right}
 use Rattle.records.proofs.format.band_record.Needs as need

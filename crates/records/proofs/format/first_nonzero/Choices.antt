@@ -1,3 +1,4 @@
+-- `first_nonzero`: every byte passed over is 00.
 use mathlib.Core.Path.{_≡_}
 use Prim.Native.Nat.{ℕ, _≤_, _<_}
 use Rattle.records.specs.Format.{byte}

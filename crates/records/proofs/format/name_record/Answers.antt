@@ -1,4 +1,4 @@
--- Each way out tells the record's lowest wrong position, or that there is none.
+-- `name_record`: each way out tells the record's lowest wrong position, or that there is none.
 use mathlib.Core.Path.{_≡_, sym, _∙_}
 use mathlib.Core.Bool.{true, false}
 use Prim.Native.Nat.{_+_, _-_}

@@ -1,4 +1,4 @@
--- Each way out is a case of what stands at the cursor.
+-- `record_at`: each way out is a case of what stands at the cursor.
 use mathlib.Core.Path.{refl, sym}
 use native.Mathlib.Omega.{arith}
 use Rattle.std.proofs.shelf.Results.{err-from-errBy}

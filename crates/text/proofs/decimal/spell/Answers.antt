@@ -1,6 +1,5 @@
-use Prim.Native.Nat.{_≤_}
+-- `spell`: one digit more each turn, the last first.
 use native.Mathlib.Omega.{arith}
-use mathlib.Core.Path.{_∙_}
 use Rattle.text.proofs.Spelling.{none-spelled, some-left, last-digit, last-place, one-digit}
 use Rattle.text.proofs.decimal.spell.Needs as need
 

@@ -1,3 +1,4 @@
+-- `spell`: what is left is spelled before what is written.
 use Rattle.text.proofs.Spelling.{Spelled}
 use Rattle.text.proofs.decimal.spell.Given as given
 

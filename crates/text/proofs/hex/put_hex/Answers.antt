@@ -1,12 +1,12 @@
-use mathlib.Core.Path.{_≡_, sym, ap, _∙_}
-use Prim.Native.Nat.{_+_, _*_, _≤_, _<_}
-use native.Mathlib.Omega.{arith}
-use lib.ListN.{length, take}
+-- `put_hex`: two digits more each turn.
+use mathlib.Core.Path.{sym}
+use Prim.Native.Nat.{_*_}
+use lib.ListN.{length}
 use Rattle.std.proofs.shelf.Lists.{take-all}
 use Rattle.std.proofs.shelf.Results.{err-from-errBy}
-use Rattle.text.specs.Puts.{over, hexadecimal}
+use Rattle.text.specs.Puts.{hexadecimal}
 use Rattle.text.proofs.Hexadecimal.{length-hexadecimal, two-more}
-use Rattle.text.proofs.Writes.{ends, stops, put, refused, over-none}
+use Rattle.text.proofs.Writes.{ends, stops, put, refused, overlaid-none}
 use Rattle.text.proofs.hex.put_hex.Needs as need
 
 pub returns-in-Break-end : need.returns-in-Break-end
@@ -18,7 +18,7 @@ returns-in-Break-end c =
     rw (p .1, p .2, short .1, ← length-hexadecimal bytes) (refused old (c .args .at) (hexadecimal bytes) (rw (length-hexadecimal bytes) (short .0)))
 
 pub loop-i-holds : need.loop-i-holds
-loop-i-holds c = sym (over-none (c .args .text .now) (c .args .at))
+loop-i-holds c = sym (overlaid-none (c .args .text .now) (c .args .at))
 
 pub loop-i-again : need.loop-i-again
 loop-i-again c =

@@ -1,6 +1,5 @@
-use mathlib.Core.Path.{sym, ap, _∙_}
-use lib.ListN.{length}
-use Rattle.text.specs.Pieces.{said}
+-- `piece_len`: a byte has two digits.
+use mathlib.Core.Path.{sym}
 use Rattle.text.proofs.Hexadecimal.{length-hexadecimal}
 use Rattle.text.proofs.piece.piece_len.Needs as need
 

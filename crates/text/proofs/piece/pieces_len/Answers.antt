@@ -1,4 +1,4 @@
-use mathlib.Core.Path.{_≡_}
+-- `pieces_len`: one piece more each turn.
 use native.Mathlib.Omega.{arith}
 use Rattle.std.proofs.shelf.Lists.{take-all}
 use Rattle.text.proofs.Pieces.{length-printed-more}

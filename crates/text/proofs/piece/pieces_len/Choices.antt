@@ -1,3 +1,4 @@
+-- `pieces_len`: the count so far, capped at 64 bits.
 use mathlib.Core.Path.{_≡_}
 use Prim.Native.Nat.{_-_, _^_, min}
 use lib.ListN.{length, take}

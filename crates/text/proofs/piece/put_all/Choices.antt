@@ -1,3 +1,4 @@
+-- `put_all`: the pieces so far are put.
 use Rattle.text.proofs.Pieces.{Sofar}
 use Rattle.text.proofs.piece.put_all.Given as given
 

@@ -1,3 +1,4 @@
+-- `put_line`: its numbers have 8 and 64 bits, so the line is short.
 use native.Mathlib.Omega.{arith}
 use borrow.Author.Needs.{needs}
 use Rattle.text.proofs.DigitCounts.{refused-short}
