@@ -192,7 +192,7 @@ fn the_total_and_the_larger_grade_are_the_later_edge() -> Result<(), Fail> {
             check_eq(x.larger(y).number, GRADES[i.max(j)])?;
         }
     }
-    Ok(())
+    check_eq(grade(1_000).total(grade(1_000)).number, 1_000)
 }
 
 #[test]
