@@ -12,11 +12,12 @@ use Rattle.std.specs.declared.result.Result.{Result}
 use Rattle.std.specs.declared.result.Result.the-variants.{Ok, Err}
 use Rattle.records.proofs.Contents.{step}
 use Rattle.records.proofs.Counting.{all-counted, counts-push}
-use Rattle.records.proofs.Cursor.{stands, name-short}
+use Rattle.records.proofs.Cursor.{stands}
 use Rattle.records.specs.Contents.{Contents, andThen, contents, contentsFrom}
 use Rattle.records.specs.Counts.{withOne, countsOf}
+use Rattle.records.specs.Encoding.{Sayable}
 use Rattle.records.specs.Faults.{refusalOf}
-use Rattle.records.specs.Format.{Entry, band, name, recordAt}
+use Rattle.records.specs.Format.{Entry, recordAt}
 use Rattle.records.specs.declared.counts.Counts.{Counts}
 use Rattle.records.specs.declared.fault.RecordFault.{RecordFault}
 use Rattle.records.specs.declared.reader.Reader.{Reader}
@@ -25,13 +26,7 @@ use Rattle.text.specs.Puts.{overlaid, Put}
 use Rattle.text.specs.Refused.{refusedLine}
 use Rattle.text.specs.declared.room.TooShort.{TooShort}
 use Rattle.listings.specs.Listing.{line, countsLine, closing, told}
-use Rattle.listings.specs.Room.{bound}
-use Rattle.listings.proofs.LineLengths.{counts-short}
-
--- a record's line has at most 35 bytes
-line-short : (bytes : List ℕ) (at : ℕ) (e : Entry) → recordAt bytes at ≡ Ok (Some e) → length (line e) ≤ bound e → length (line e) ≤ 35
-line-short bytes at (band source target low high) here fits = fits
-line-short bytes at (name state place part) here fits = omega (arith, fits, name-short bytes at here)
+use Rattle.listings.proofs.LineLengths.{line-short, counts-short}
 
 -- the records before the cursor are told in the text, which has room for all
 pub record Sofar (bytes old : List ℕ) (reader : Reader) (text : List ℕ) (end : ℕ) (counts : Counts) : Type 0 where
@@ -97,12 +92,12 @@ module _ {bytes old : List ℕ} {reader : Reader} {text : List ℕ} {end : ℕ} 
   closed-at-fault f here =
       closed (refusedLine (refusalOf f) (counts .bands + counts .names)) (told-all (Some f) (at-cursor (Err f) here) ∙ ap (λ (i : ℕ). joined line (sofar .seen) ++ refusedLine (refusalOf f) i) (sym index))
 
-  module _ (e : Entry) (here : Ok (Some e) ≡ recordAt (reader .bytes .now) (reader .cursor)) (fits : length (line e) ≤ bound e) where
+  module _ (e : Entry) (here : Ok (Some e) ≡ recordAt (reader .bytes .now) (reader .cursor)) (can : Sayable e (reader .cursor)) where
     pub whole-record : reader .cursor + 12 ≤ length bytes
     whole-record = stands bytes (reader .cursor) (sym (same-input here)) .0
 
     line-fits : length (line e) ≤ 35
-    line-fits = line-short (reader .bytes .now) (reader .cursor) e (sym here) fits
+    line-fits = line-short e (reader .cursor) can
 
     next-room : 0 + length (joined line (sofar .seen) ++ line e) ≤ length old
     next-room = omega (arith, length-append (joined line (sofar .seen)) (line e), line-fits, whole-record, sofar .at, sofar .short, sofar .few, sofar .room)

@@ -1,8 +1,5 @@
 // The lines of a listing.
-ghost use Prim.Native.Nat.{_+_, _*_, _≤_};
-ghost use lib.ListN.{length};
 ghost use Rattle.listings.specs.Listing.{bandLine, nameLine, line, countsLine};
-ghost use Rattle.listings.specs.Room.{bound};
 ghost use Rattle.records.specs.Reading.{said};
 ghost use Rattle.text.specs.Puts.{Put};
 use records::counts::Counts;
@@ -12,8 +9,7 @@ use text::piece::put_all;
 use text::room::TooShort;
 
 pub(crate) fn put_record(text: &mut [u8], at: usize, entry: &Record<'_>) -> Result<usize, TooShort>
-    ensures writes { λ r. ⌜ Put (now (text .entry)) at (line (said (now (entry .entry)))) (now (text .exit)) r ⌝ }
-    ensures short { λ _. ⌜ length (line (said (now (entry .entry)))) ≤ bound (said (now (entry .entry))) ⌝ }
+    ensures { λ r. ⌜ Put (now (text .entry)) at (line (said (now (entry .entry)))) (now (text .exit)) r ⌝ }
 {
     match entry {
         Record::Band {
@@ -34,8 +30,7 @@ fn put_band(
     low: u32,
     high: u32,
 ) -> Result<usize, TooShort>
-    ensures writes { λ r. ⌜ Put (now (text .entry)) at (bandLine source target low high) (now (text .exit)) r ⌝ }
-    ensures short { λ _. ⌜ length (bandLine source target low high) ≤ 35 ⌝ }
+    ensures { λ r. ⌜ Put (now (text .entry)) at (bandLine source target low high) (now (text .exit)) r ⌝ }
 {
     let line = [
         Piece::Word(b"band "),
@@ -52,8 +47,7 @@ fn put_band(
 }
 
 fn put_name(text: &mut [u8], at: usize, state: u8, bytes: &[u8]) -> Result<usize, TooShort>
-    ensures writes { λ r. ⌜ Put (now (text .entry)) at (nameLine state (now (bytes .entry))) (now (text .exit)) r ⌝ }
-    ensures short { λ _. ⌜ length (nameLine state (now (bytes .entry))) ≤ 10 + 2 * length (now (bytes .entry)) ⌝ }
+    ensures { λ r. ⌜ Put (now (text .entry)) at (nameLine state (now (bytes .entry))) (now (text .exit)) r ⌝ }
 {
     let line = [
         Piece::Word(b"name "),

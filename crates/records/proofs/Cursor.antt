@@ -2,12 +2,12 @@
 use mathlib.Core.Path.{_≡_, refl, sym, ap, _∙_}
 use mathlib.Core.Bool.{Bool, true, false, cond, _||_}
 use mathlib.Core.List.{List}
-use mathlib.Core.Logic.{_⊎_, inl, inr}
+use mathlib.Core.Logic.{_⊎_, inl, inr, ⊎-elim}
 use Prim.Native.Nat.{ℕ, _+_, _-_, _≤_, _<_}
 use native.Mathlib.Omega.{arith}
-use lib.ListN.{length, take, drop, length-drop, length-take}
+use lib.ListN.{length, take, drop, length-drop}
 use denote.Ref.{RefT}
-use Rattle.std.proofs.shelf.Tests.{cases-lt, eq-eqb, eqb-true, ne-eqb, lt-ltb, le-ltb}
+use Rattle.std.proofs.shelf.Tests.{cases-lt, eq-eqb, ne-eqb, lt-ltb, le-ltb}
 use Rattle.std.specs.declared.option.Option.{Option}
 use Rattle.std.specs.declared.option.Option.the-variants.{None, Some}
 use Rattle.std.specs.declared.result.Result.{Result}
@@ -16,14 +16,13 @@ use Rattle.records.specs.declared.fault.RecordFault.{RecordFault}
 use Rattle.records.specs.declared.fault.RecordFault.the-variants.{Partial, UnknownKind}
 use Rattle.records.specs.declared.record.Record.{Record}
 use Rattle.records.specs.declared.record.Record.the-variants.{Band, Name}
-use Rattle.records.specs.Format.{Entry, name, byte, isBand, isName, wrongPosition, bandIn, nameIn, unlessWrong, found, recordOf, recordAt}
+use Rattle.records.specs.Format.{Entry, name, byte, isBand, isName, wrongPosition, bandIn, nameIn, unlessWrong, present, recordOf, recordAt}
 use Rattle.records.specs.Reading.{InPlace}
 use Rattle.records.specs.Twelve.{Held}
-use Rattle.records.proofs.Positions.{few-named}
 
-found-record : (x : Result Entry RecordFault) {e : Entry} → found x ≡ Ok (Some e) → x ≡ Ok e
-found-record (Ok y) same = cc
-found-record (Err f) same = let z : _≡_ {A = ℕ} 0 1 = cc in absurd (omega arith)
+present-record : (x : Result Entry RecordFault) {e : Entry} → present x ≡ Ok (Some e) → x ≡ Ok e
+present-record (Ok y) same = cc
+present-record (Err f) same = let z : _≡_ {A = ℕ} 0 1 = cc in absurd (omega arith)
 
 module _ (bytes : List ℕ) (at : ℕ) where
   pub at-end : length bytes ≤ at → recordAt bytes at ≡ Ok None
@@ -32,11 +31,11 @@ module _ (bytes : List ℕ) (at : ℕ) where
   pub at-partial : at < length bytes → length bytes - at < 12 → recordAt bytes at ≡ Err (Partial (length bytes - at))
   at-partial some few = rw (length-drop, ne-eqb (length bytes - at) 0 (omega arith), lt-ltb (length bytes - at) 12 few)
 
-  pub at-record : at + 12 ≤ length bytes → recordAt bytes at ≡ found (recordOf (take 12 (drop at bytes)) at)
+  pub at-record : at + 12 ≤ length bytes → recordAt bytes at ≡ present (recordOf (take 12 (drop at bytes)) at)
   at-record whole = rw (length-drop, ne-eqb (length bytes - at) 0 (omega arith), le-ltb (length bytes - at) 12 (omega arith))
 
   -- the same of the part `&bytes[at..at + 12]`, which is `(at + 12) - at` long
-  pub at-part : at + 12 ≤ length bytes → (x : Result Entry RecordFault) → x ≡ recordOf (take ((at + 12) - at) (drop at bytes)) at → found x ≡ recordAt bytes at
+  pub at-part : at + 12 ≤ length bytes → (x : Result Entry RecordFault) → x ≡ recordOf (take ((at + 12) - at) (drop at bytes)) at → present x ≡ recordAt bytes at
   at-part whole x held = let twelve : (at + 12) - at ≡ 12 = omega arith in rw (held, twelve) (sym (at-record whole))
 
   -- where a record stands, its twelve bytes are there
@@ -46,37 +45,30 @@ module _ (bytes : List ℕ) (at : ℕ) where
       by-length : (at < length bytes) ⊎ (length bytes ≤ at) → (length bytes - at < 12) ⊎ (12 ≤ length bytes - at) → recordAt bytes at ≡ Ok (Some e) → (at + 12 ≤ length bytes) × (recordOf (take 12 (drop at bytes)) at ≡ Ok e)
       by-length (inr none) few here = let end = at-end none in let z : _≡_ {A = ℕ} 0 1 = cc in absurd (omega arith)
       by-length (inl some) (inl few) here = let partial = at-partial some few in let z : _≡_ {A = ℕ} 0 1 = cc in absurd (omega arith)
-      by-length (inl some) (inr whole) here = (omega arith, found-record (recordOf (take 12 (drop at bytes)) at) (sym (at-record (omega arith)) ∙ here))
+      by-length (inl some) (inr whole) here = (omega arith, present-record (recordOf (take 12 (drop at bytes)) at) (sym (at-record (omega arith)) ∙ here))
 
--- what a record that is a name tells
-pub record Named (r : List ℕ) (at p : ℕ) (bs : List ℕ) : Type 0 where
-  pub place : p ≡ at + 4
-  pub part : bs ≡ take (byte r 2) (drop 4 r)
-  pub right : wrongPosition r ≡ None
-  pub kind : isName r ≡ true
-
-named : (r : List ℕ) (at : ℕ) {s p : ℕ} {bs : List ℕ} → recordOf r at ≡ Ok (name s p bs) → Named r at p bs
-named r at {s} {p} {bs} = by-cases (isBand r) (isName r) (wrongPosition r) refl refl
+-- twelve bytes that are read are nowhere wrong, and are a band or a name
+pub told : (r : List ℕ) (at : ℕ) {e : Entry} → recordOf r at ≡ Ok e → (wrongPosition r ≡ None) × (((isBand r ≡ true) × (e ≡ bandIn r)) ⊎ ((isName r ≡ true) × (e ≡ nameIn r at)))
+told r at {e} = by-cases (isBand r) (isName r) (wrongPosition r)
   where
-    by-cases : (band other : Bool) (wrong : Option ℕ) → isName r ≡ other → wrongPosition r ≡ wrong → cond (band || other) (unlessWrong wrong (cond band (bandIn r) (nameIn r at))) (Err (UnknownKind (byte r 0))) ≡ Ok (name s p bs) → Named r at p bs
-    by-cases false true None kind right e = record { place = cc; part = cc; right = right; kind = kind }
-    by-cases true other None kind right e = let z : _≡_ {A = ℕ} 0 1 = cc in absurd (omega arith)
-    by-cases true other (Some q) kind right e = let z : _≡_ {A = ℕ} 0 1 = cc in absurd (omega arith)
-    by-cases false true (Some q) kind right e = let z : _≡_ {A = ℕ} 0 1 = cc in absurd (omega arith)
-    by-cases false false wrong kind right e = let z : _≡_ {A = ℕ} 0 1 = cc in absurd (omega arith)
+    by-cases : (band other : Bool) (wrong : Option ℕ) → cond (band || other) (unlessWrong wrong (cond band (bandIn r) (nameIn r at))) (Err (UnknownKind (byte r 0))) ≡ Ok e → (wrong ≡ None) × (((band ≡ true) × (e ≡ bandIn r)) ⊎ ((other ≡ true) × (e ≡ nameIn r at)))
+    by-cases true other None same = (refl, inl (refl, cc))
+    by-cases false true None same = (refl, inr (refl, cc))
+    by-cases true other (Some q) same = let z : _≡_ {A = ℕ} 0 1 = cc in absurd (omega arith)
+    by-cases false true (Some q) same = let z : _≡_ {A = ℕ} 0 1 = cc in absurd (omega arith)
+    by-cases false false wrong same = let z : _≡_ {A = ℕ} 0 1 = cc in absurd (omega arith)
 
--- a name has at most 8 bytes
-pub name-short : (bytes : List ℕ) (at : ℕ) {s p : ℕ} {bs : List ℕ} → recordAt bytes at ≡ Ok (Some (name s p bs)) → length bs ≤ 8
-name-short bytes at here =
-    let r : List ℕ = take 12 (drop at bytes) in
-    let name-is = named r at (stands bytes at here .1) in
-    let few = few-named r (eqb-true (byte r 0) 0x4E (name-is .kind)) (name-is .right) in
-    omega (arith, few, ap length (name-is .part) ∙ length-take (byte r 2) (drop 4 r))
+-- a name begins four bytes after its record
+name-place : (r : List ℕ) (at : ℕ) {s p : ℕ} {bs : List ℕ} → recordOf r at ≡ Ok (name s p bs) → p ≡ at + 4
+name-place r at {s} {p} {bs} here =
+    ⊎-elim
+    (λ (band : (isBand r ≡ true) × (name s p bs ≡ bandIn r)). let is = band .1 in let z : _≡_ {A = ℕ} 0 1 = cc in absurd (omega arith))
+    (λ (other : (isName r ≡ true) × (name s p bs ≡ nameIn r at)). let is = other .1 in cc)
+    (told r at here .1)
 
 -- a name in the record r, which begins at `at` in the input, lies in the input at its place
 pub in-place : (origin : ℕ × ℕ) (at : ℕ) (r : RefT (List ℕ)) → r .ptr ≡ (origin .0, at + origin .1) → (x : Record) → Held r at (Ok x) → InPlace origin x
 in-place origin at r lies (Band source target low high) held = tt
 in-place origin at r lies (Name state place part) held =
-    let name-is = named (r .now) at (sym (held .answer)) in
-    let offset : r .ptr .1 + 4 ≡ origin .1 + place = omega (arith, ap (λ (o : ℕ × ℕ). o .1) lies, name-is .place) in
+    let offset : r .ptr .1 + 4 ≡ origin .1 + place = omega (arith, ap (λ (o : ℕ × ℕ). o .1) lies, name-place (r .now) at (sym (held .answer))) in
     held .in-record ∙ (λ i. (lies i .0, offset i))

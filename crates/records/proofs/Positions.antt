@@ -44,6 +44,10 @@ module _ (test : ℕ → Bool) where
 wrong-is : (r : List ℕ) (p : ℕ) → p < 12 → wrongAt r p ≡ true → ((k : ℕ) → k < p → wrongAt r k ≡ false) → wrongPosition r ≡ Some p
 wrong-is r p within is before = lowest-is (wrongAt r) 0 12 p (omega arith) (omega arith) is (λ k lo. before k)
 
+-- byte 3 of a record that is nowhere wrong is 00
+pub third-right : (r : List ℕ) → wrongPosition r ≡ None → byte r 3 ≡ 0
+third-right r none = let right : wrongAt r 3 ≡ false = none-passes (wrongAt r) 0 12 none 3 (omega arith) (omega arith) in grind (arith, tells)
+
 module _ (r : List ℕ) (kind : byte r 0 ≡ 0x42) where
   pub band-wrong : (byte r 3 ≡ 0 → ⊥) → wrongPosition r ≡ Some 3
   band-wrong some = wrong-is r 3 (omega arith) (grind (arith, tells)) (λ k below. grind (arith, tells))
@@ -56,9 +60,12 @@ module _ (r : List ℕ) (kind : byte r 0 ≡ 0x42) where
       right k (inr ne) = grind (arith, tells)
 
 module _ (r : List ℕ) (kind : byte r 0 ≡ 0x4E) where
-  -- a name that is nowhere wrong has at most 8 bytes
-  pub few-named : wrongPosition r ≡ None → byte r 2 ≤ 8
-  few-named none = let right : wrongAt r 2 ≡ false = none-passes (wrongAt r) 0 12 none 2 (omega arith) (omega arith) in grind (arith, tells)
+  -- a name that is nowhere wrong has 1 to 8 bytes, and 00 after them
+  pub length-right : wrongPosition r ≡ None → nameLength (byte r 2) ≡ true
+  length-right none = let right : wrongAt r 2 ≡ false = none-passes (wrongAt r) 0 12 none 2 (omega arith) (omega arith) in grind (arith, tells)
+
+  pub filler-right : wrongPosition r ≡ None → (k : ℕ) → 4 + byte r 2 ≤ k → k < 12 → byte r k ≡ 0
+  filler-right none k lo hi = let right : wrongAt r k ≡ false = none-passes (wrongAt r) 0 12 none k (omega arith) (omega arith) in grind (arith, tells)
 
   pub length-wrong : nameLength (byte r 2) ≡ false → wrongPosition r ≡ Some 2
   length-wrong out = wrong-is r 2 (omega arith) (grind (arith, tells)) (λ k below. grind (arith, tells))

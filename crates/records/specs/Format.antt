@@ -65,12 +65,12 @@ unlessWrong (Some p) e = Err (WrongByte p)
 abbrev pub recordOf : List ℕ → ℕ → Result Entry RecordFault
 recordOf r at = cond (isBand r || isName r) (unlessWrong (wrongPosition r) (cond (isBand r) (bandIn r) (nameIn r at))) (Err (UnknownKind (byte r 0)))
 
-abbrev pub found : Result Entry RecordFault → Result (Option Entry) RecordFault
-found (Ok e) = Ok (Some e)
-found (Err f) = Err f
+abbrev pub present : Result Entry RecordFault → Result (Option Entry) RecordFault
+present (Ok e) = Ok (Some e)
+present (Err f) = Err f
 
 -- what stands at a cursor: the end, a fault, or a record
 abbrev pub recordAt : List ℕ → ℕ → Result (Option Entry) RecordFault
 recordAt bytes at =
     let rest : List ℕ = drop at bytes in
-    cond (eqb (length rest) 0) (Ok None) (cond (ltb (length rest) 12) (Err (Partial (length rest))) (found (recordOf (take 12 rest) at)))
+    cond (eqb (length rest) 0) (Ok None) (cond (ltb (length rest) 12) (Err (Partial (length rest))) (present (recordOf (take 12 rest) at)))

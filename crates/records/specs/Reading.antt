@@ -9,6 +9,7 @@ use Rattle.records.specs.declared.fault.RecordFault.{RecordFault}
 use Rattle.records.specs.declared.record.Record.{Record}
 use Rattle.records.specs.declared.record.Record.the-variants.{Band, Name}
 use Rattle.records.specs.declared.reader.Reader.{Reader}
+use Rattle.records.specs.Encoding.{Found}
 use Rattle.records.specs.Format.{Entry, band, name, recordAt}
 
 -- what a record says, without its reference
@@ -39,6 +40,7 @@ NoCopy origin (Err f) = Unit {0}
 
 pub record Next (before after : Reader) (r : Result (Option Record) RecordFault) : Type 0 where
   pub answer : answered r ≡ recordAt (before .bytes .now) (before .cursor)
+  pub found : Found (before .bytes .now) (before .cursor) (answered r)
   pub cursor : after .cursor ≡ past (before .cursor) r
   pub input : after .bytes ≡ before .bytes
   pub in-place : NoCopy (before .bytes .ptr) r

@@ -11,6 +11,7 @@ use Rattle.std.specs.declared.result.Result.the-variants.{Ok, Err}
 use Rattle.records.specs.declared.fault.RecordFault.{RecordFault}
 use Rattle.records.specs.declared.record.Record.{Record}
 use Rattle.records.specs.declared.record.Record.the-variants.{Band, Name}
+use Rattle.records.specs.Encoding.{Found}
 use Rattle.records.specs.Format.{Entry, byte, wrongPosition, unlessWrong, recordOf, recordAt}
 use Rattle.records.specs.Reading.{said, answered, past, NoCopy}
 
@@ -36,6 +37,7 @@ pub record Held (r : RefT (List ℕ)) (at : ℕ) (a : Result Record RecordFault)
 -- what stands at `at` in the input, and past a record lie its twelve bytes
 pub record StandsAt (input : RefT (List ℕ)) (at : ℕ) (r : Result (Option Record) RecordFault) : Type 0 where
   pub answer : answered r ≡ recordAt (input .now) at
+  pub found : Found (input .now) at (answered r)
   pub in-place : NoCopy (input .ptr) r
   pub within : past at r < 2 ^ 64
 

@@ -1,4 +1,5 @@
 -- `put_records`: a record, the end and a fault each lead on as the listing has it.
+use mathlib.Core.Path.{refl}
 use native.Mathlib.Omega.{arith}
 use Rattle.records.specs.Reading.{said}
 use Rattle.text.proofs.Writes.{not-refused}
@@ -22,17 +23,19 @@ returns-in-rest c =
 
 pub returns-in-Break-end : need.returns-in-Break-end
 returns-in-Break-end c =
-    let here = rw (c .in-Some .is) at (c .in-Ok .ensures tt .answer) in
-    let put = c .in-Break-end .ensures tt in
-    absurd (not-refused (c .records .text) (c .records .end) (line (said (c .in-Some .entry))) (c .put-record .last .text) (c .in-Break-end .field-0 .0) (put .writes) (next-fits (c .records .inv) (said (c .in-Some .entry)) here (put .short)))
+    let entry = said (c .in-Some .entry) in
+    let read = rw (c .in-Some .is) at (c .in-Ok .ensures tt) in
+    let fits = next-fits (c .records .inv) entry (read .answer) (read .found .only entry refl .0) in
+    absurd (not-refused (c .records .text) (c .records .end) (line entry) (c .put-record .last .text) (c .in-Break-end .field-0 .0) (c .in-Break-end .ensures tt) fits)
 
 pub records-less : need.records-less
 records-less c =
+    let entry = said (c .in-Some .entry) in
     let read = rw (c .in-Some .is) at (c .in-Ok .ensures tt) in
-    omega (arith, read .cursor, whole-record (c .records .inv) (said (c .in-Some .entry)) (read .answer) (c .put-record .ensures .short))
+    omega (arith, read .cursor, whole-record (c .records .inv) entry (read .answer) (read .found .only entry refl .0))
 
 pub records-again : need.records-again
 records-again c =
+    let entry = said (c .in-Some .entry) in
     let read = rw (c .in-Some .is) at (c .in-Ok .ensures tt) in
-    let put = c .in-Continue-end .ensures tt in
-    next (c .records .inv) (said (c .in-Some .entry)) (read .answer) (put .short) (c .next .last .self) (c .put-record .last .text) (c .in-Continue-end .end) (c .with-counts .result) (read .input) (read .cursor) (c .put-record .kept .text) (put .writes) (c .with-counts .ensures)
+    next (c .records .inv) entry (read .answer) (read .found .only entry refl .0) (c .next .last .self) (c .put-record .last .text) (c .in-Continue-end .end) (c .with-counts .result) (read .input) (read .cursor) (c .put-record .kept .text) (c .in-Continue-end .ensures tt) (c .with-counts .ensures)
