@@ -1,4 +1,4 @@
--- A record is present exactly where its bytes stand.
+-- A record is found exactly where its bytes stand.
 use mathlib.Core.Path.{_≡_, refl, sym, ap, subst, _∙_}
 use mathlib.Core.Bool.{true}
 use mathlib.Core.List.{List, [], _∷_, _++_}
