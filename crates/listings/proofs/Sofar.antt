@@ -1,5 +1,5 @@
 -- A listing so far: one turn of the loop, and its two ways out.
-use mathlib.Core.Path.{_≡_, sym, ap, ap₂, subst₂, _∙_}
+use mathlib.Core.Path.{_≡_, sym, ap, ap₂, subst, _∙_}
 use mathlib.Core.List.{List, [], _∷_, _++_}
 use Prim.Native.Nat.{ℕ, _+_, _*_, _^_, _≤_, _<_}
 use native.Mathlib.Omega.{arith}
@@ -12,17 +12,18 @@ use Rattle.std.specs.declared.result.Result.{Result}
 use Rattle.std.specs.declared.result.Result.the-variants.{Ok, Err}
 use Rattle.records.proofs.Contents.{step}
 use Rattle.records.proofs.Counting.{all-counted, counts-push}
-use Rattle.records.proofs.Cursor.{stands}
+use Rattle.records.proofs.Encoding.{says-whole}
 use Rattle.records.specs.Contents.{Contents, andThen, contents, contentsFrom}
 use Rattle.records.specs.Counts.{withOne, countsOf}
-use Rattle.records.specs.Encoding.{Sayable}
+use Rattle.records.specs.Encoding.{Says}
 use Rattle.records.specs.Faults.{refusalOf}
 use Rattle.records.specs.Format.{Entry, recordAt}
 use Rattle.records.specs.declared.counts.Counts.{Counts}
 use Rattle.records.specs.declared.fault.RecordFault.{RecordFault}
 use Rattle.records.specs.declared.reader.Reader.{Reader}
-use Rattle.text.proofs.Writes.{after, after-fits, put}
-use Rattle.text.specs.Puts.{overlaid, Put}
+use Rattle.text.proofs.Writes.{Laid}
+use Rattle.text.proofs.Writes as writes
+use Rattle.text.specs.Puts.{Put}
 use Rattle.text.specs.Refused.{refusedLine}
 use Rattle.text.specs.declared.room.TooShort.{TooShort}
 use Rattle.listings.specs.Listing.{line, countsLine, closing, told}
@@ -32,13 +33,11 @@ use Rattle.listings.proofs.LineLengths.{line-short, counts-short}
 pub record Sofar (bytes old : List ℕ) (reader : Reader) (text : List ℕ) (end : ℕ) (counts : Counts) : Type 0 where
   pub few : length bytes ≤ 61_440
   pub room : 180_000 ≤ length old
-  pub long : length text ≡ length old
   pub input : reader .bytes .now ≡ bytes
   pub seen : List Entry
   pub entries : contents bytes .entries ≡ seen ++ contentsFrom bytes (reader .cursor) .entries
   pub ending : contents bytes .ending ≡ contentsFrom bytes (reader .cursor) .ending
-  pub writes : text ≡ overlaid old 0 (joined line seen)
-  pub ends : end ≡ 0 + length (joined line seen)
+  pub laid : Laid old 0 (joined line seen) text end
   pub short : length (joined line seen) ≤ 35 * length seen
   pub at : reader .cursor ≡ 12 * length seen
   pub within : reader .cursor ≤ length bytes
@@ -55,12 +54,10 @@ module _ {bytes old : List ℕ} {reader : Reader} {text : List ℕ} {end : ℕ} 
   pub index-fits : counts .bands + counts .names < 2 ^ 64
   index-fits = omega (arith, index, few-seen)
 
-  same-input : {a : Result (Option Entry) RecordFault} → a ≡ recordAt (reader .bytes .now) (reader .cursor) → a ≡ recordAt bytes (reader .cursor)
-  same-input here = here ∙ ap (λ (bs : List ℕ). recordAt bs (reader .cursor)) (sofar .input)
-
   at-cursor : (a : Result (Option Entry) RecordFault) → a ≡ recordAt (reader .bytes .now) (reader .cursor) → contentsFrom bytes (reader .cursor) ≡ andThen a (contentsFrom bytes (reader .cursor + 12))
   at-cursor a here =
-      step bytes (reader .cursor) ∙ ap (λ (b : Result (Option Entry) RecordFault). andThen b (contentsFrom bytes (reader .cursor + 12))) (sym (same-input here))
+      let same = here ∙ ap (λ (bs : List ℕ). recordAt bs (reader .cursor)) (sofar .input) in
+      step bytes (reader .cursor) ∙ ap (λ (b : Result (Option Entry) RecordFault). andThen b (contentsFrom bytes (reader .cursor + 12))) (sym same)
 
   -- where no record stands at the cursor, all records are seen
   told-all : (o : Option RecordFault) → contentsFrom bytes (reader .cursor) ≡ record { entries = []; ending = o } → told (contents bytes) ≡ joined line (sofar .seen) ++ closing (sofar .seen) o
@@ -74,13 +71,11 @@ module _ {bytes old : List ℕ} {reader : Reader} {text : List ℕ} {end : ℕ} 
   Closed new r = Put old 0 (told (contents bytes)) new r × (length (told (contents bytes)) ≤ 180_000)
 
   closed : (last : List ℕ) → told (contents bytes) ≡ joined line (sofar .seen) ++ last → length last ≤ 67 → {new : List ℕ} {r : Result ℕ TooShort} → Put text end last new r → Closed new r
-  closed last whole short {new} p =
+  closed last whole short {new} {r} p =
       let ys : List ℕ = joined line (sofar .seen) ++ last in
-      let length-told : length (told (contents bytes)) ≤ 180_000 = omega (arith, ap length whole ∙ length-append (joined line (sofar .seen)) last, sofar .short, few-seen) in
-      let fits : 0 + length ys ≤ length old = omega (arith, ap length whole, length-told, sofar .room) in
-      let both = after old 0 (joined line (sofar .seen)) last fits (sofar .writes) (sofar .ends) (sofar .long) p in
-      let done : Put old 0 ys new (Ok (0 + length ys)) = put old 0 ys new fits (both .1) in
-      (subst₂ (λ (t : List ℕ) (a : Result ℕ TooShort). Put old 0 t new a) (sym whole) (sym (both .0)) done, length-told)
+      let fits : length ys ≤ 180_000 = omega (arith, length-append (joined line (sofar .seen)) last, sofar .short, few-seen) in
+      let room : 0 + length ys ≤ length old = omega (arith, fits, sofar .room) in
+      subst (λ (t : List ℕ). Put old 0 t new r × (length t ≤ 180_000)) (sym whole) (writes.last-laid (sofar .laid) last room p, fits)
 
   pub closed-at-end : Ok None ≡ recordAt (reader .bytes .now) (reader .cursor) → {new : List ℕ} {r : Result ℕ TooShort} → Put text end (countsLine counts) new r → Closed new r
   closed-at-end here =
@@ -92,36 +87,32 @@ module _ {bytes old : List ℕ} {reader : Reader} {text : List ℕ} {end : ℕ} 
   closed-at-fault f here =
       closed (refusedLine (refusalOf f) (counts .bands + counts .names)) (told-all (Some f) (at-cursor (Err f) here) ∙ ap (λ (i : ℕ). joined line (sofar .seen) ++ refusedLine (refusalOf f) i) (sym index))
 
-  module _ (e : Entry) (here : Ok (Some e) ≡ recordAt (reader .bytes .now) (reader .cursor)) (can : Sayable e (reader .cursor)) where
+  module _ (e : Entry) (here : Ok (Some e) ≡ recordAt (reader .bytes .now) (reader .cursor)) (says : Says (reader .bytes .now) (reader .cursor) e) where
     pub whole-record : reader .cursor + 12 ≤ length bytes
-    whole-record = stands bytes (reader .cursor) (sym (same-input here)) .0
+    whole-record = rw (sofar .input) at (says-whole (reader .bytes .now) (reader .cursor) e says)
 
     line-fits : length (line e) ≤ 35
-    line-fits = line-short e (reader .cursor) can
+    line-fits = line-short e (reader .cursor) (says .0)
 
     next-room : 0 + length (joined line (sofar .seen) ++ line e) ≤ length old
     next-room = omega (arith, length-append (joined line (sofar .seen)) (line e), line-fits, whole-record, sofar .at, sofar .short, sofar .few, sofar .room)
 
     pub next-fits : end + length (line e) ≤ length text
-    next-fits = after-fits old 0 (joined line (sofar .seen)) (line e) next-room (sofar .writes) (sofar .ends) (sofar .long)
+    next-fits = writes.next-fits (sofar .laid) (line e) next-room
 
     pub next : (reader-after : Reader) (new : List ℕ) (next-end : ℕ) (next-counts : Counts) → reader-after .bytes ≡ reader .bytes → reader-after .cursor ≡ reader .cursor + 12 → length new ≡ length text → Put text end (line e) new (Ok next-end) → next-counts ≡ withOne counts e → Sofar bytes old reader-after new next-end next-counts
     next reader-after new next-end next-counts same moved kept p counted =
         let seen : List Entry = sofar .seen ++ (e ∷ []) in
         let more : joined line seen ≡ joined line (sofar .seen) ++ line e = sym (joined-more line [] (sofar .seen) e) in
         let rest = at-cursor (Ok (Some e)) here ∙ ap (λ (k : ℕ). andThen (Ok (Some e)) (contentsFrom bytes k)) (sym moved) in
-        let both = after old 0 (joined line (sofar .seen)) (line e) next-room (sofar .writes) (sofar .ends) (sofar .long) p in
-        let next-is : next-end ≡ 0 + length (joined line (sofar .seen) ++ line e) = cc (both .0) in
         record {
           few = sofar .few;
           room = sofar .room;
-          long = kept ∙ sofar .long;
           input = ap (λ b. b .now) same ∙ sofar .input;
           seen = seen;
           entries = sofar .entries ∙ ap (λ (c : Contents). sofar .seen ++ c .entries) rest ∙ sym (append-assoc (sofar .seen) (e ∷ []) _);
           ending = sofar .ending ∙ ap (λ (c : Contents). c .ending) rest;
-          writes = both .1 ∙ ap (overlaid old 0) (sym more);
-          ends = next-is ∙ ap (λ (ys : List ℕ). 0 + length ys) (sym more);
+          laid = subst (λ (xs : List ℕ). Laid old 0 xs new next-end) (sym more) (writes.next-laid (sofar .laid) (line e) next-room new next-end kept p);
           short = omega (arith, ap length more ∙ length-append (joined line (sofar .seen)) (line e), length-push (sofar .seen) e, line-fits, sofar .short);
           at = omega (arith, moved, sofar .at, length-push (sofar .seen) e);
           within = omega (arith, moved, whole-record);

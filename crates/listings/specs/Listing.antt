@@ -14,7 +14,7 @@ use Rattle.std.specs.declared.result.Result.{Result}
 use Rattle.std.specs.declared.result.Result.the-variants.{Ok, Err}
 use Rattle.refusals.specs.declared.Refusal.{Refusal}
 use Rattle.refusals.specs.declared.Refusal.the-variants.{LongInput, ShortList}
-use Rattle.records.specs.Contents.{Contents, contents}
+use Rattle.records.specs.Contents.{Contents, Holds, contents}
 use Rattle.records.specs.Counts.{countsOf}
 use Rattle.records.specs.declared.counts.Counts.{Counts}
 use Rattle.records.specs.Faults.{refusalOf}
@@ -49,8 +49,10 @@ told held = joined line (held .entries) ++ closing (held .entries) (held .ending
 abbrev pub listing : List ℕ → List ℕ
 listing bytes = cond (ltb 61_440 (length bytes)) (refusedLine LongInput 0) (told (contents bytes))
 
--- a text under 180,000 bytes, which every listing fits, is refused and left as it was; later bytes are never touched
+-- a text under 180,000 bytes, which every listing fits, is refused and left as it was; later bytes are never touched.
+-- What is listed is what the input holds.
 pub record Listed (bytes old new : List ℕ) (r : Result ℕ Refusal) : Type 0 where
   pub answer : r ≡ cond (leb 180_000 (length old)) (Ok (length (listing bytes))) (Err (ShortList 180_000))
   pub writes : new ≡ cond (leb 180_000 (length old)) (listing bytes ++ drop (length (listing bytes)) old) old
   pub fits : 180_000 ≤ length old → length (listing bytes) ≤ 180_000
+  pub holds : 180_000 ≤ length old → length bytes ≤ 61_440 → Holds bytes (contents bytes)

@@ -2,7 +2,7 @@
 ghost use Prim.Native.Nat.{_≤_};
 ghost use lib.ListN.{length};
 ghost use Rattle.listings.specs.Listing.{told, Listed};
-ghost use Rattle.records.specs.Contents.{contents};
+ghost use Rattle.records.specs.Contents.{Holds, contents};
 ghost use Rattle.text.specs.Puts.{Put};
 use crate::lines::put_counts;
 use crate::lines::put_record;
@@ -40,6 +40,7 @@ fn put_records(text: &mut [u8], records: &[u8]) -> Result<usize, TooShort>
     requires few { ⌜ length (now records) ≤ 61440 ⌝ }
     ensures writes { λ r. ⌜ Put (now (text .entry)) 0 (told (contents (now (records .entry)))) (now (text .exit)) r ⌝ }
     ensures short { λ _. ⌜ length (told (contents (now (records .entry)))) ≤ 180000 ⌝ }
+    ensures holds { λ _. ⌜ Holds (now (records .entry)) (contents (now (records .entry))) ⌝ }
 {
     let mut reader = Reader::new(records);
     let mut counts = Counts::none();

@@ -1,6 +1,6 @@
 -- A record is found exactly where its bytes stand.
 use mathlib.Core.Path.{_≡_, refl, sym, ap, subst, _∙_}
-use mathlib.Core.Bool.{true}
+use mathlib.Core.Bool.{true, false, _||_}
 use mathlib.Core.List.{List, [], _∷_, _++_}
 use mathlib.Core.Logic.{_⊎_, ⊎-elim}
 use Prim.Native.Nat.{ℕ, zero, suc, _+_, _-_, _*_, _/_, _%_, _^_, _≤_, _<_}
@@ -10,16 +10,17 @@ use native.Mathlib.Omega.{arith}
 use lib.Dec.{leb}
 use lib.ListN.{length, take, drop, replicate}
 use Rattle.std.proofs.shelf.Lists.{drop-all, drop-drop, drop-more, getD-append-right, getD-drop, getD-replicate, getD-take, length-append, length-drop, length-replicate, length-take, take-append-drop, take-at}
-use Rattle.std.proofs.shelf.Tests.{and-from, and-parts, eqb-true, leb-true, le-leb}
+use Rattle.std.proofs.shelf.Tests.{and-from, and-parts, eqb-false, eqb-true, leb-true, le-leb, or-parts}
 use Rattle.std.specs.declared.option.Option.{Option}
 use Rattle.std.specs.declared.option.Option.the-variants.{None, Some}
 use Rattle.std.specs.declared.result.Result.{Result}
-use Rattle.std.specs.declared.result.Result.the-variants.{Ok}
+use Rattle.std.specs.declared.result.Result.the-variants.{Ok, Err}
 use Rattle.records.specs.declared.fault.RecordFault.{RecordFault}
-use Rattle.records.specs.Encoding.{littleEndian, encoded, Sayable, Found}
+use Rattle.records.specs.declared.fault.RecordFault.the-variants.{Partial, UnknownKind, WrongByte}
+use Rattle.records.specs.Encoding.{littleEndian, encoded, Sayable, Says, Told, Tells}
 use Rattle.records.specs.Format.{Entry, band, name, byte, number, nameLength, isBand, isName, wrongPosition, bandIn, nameIn, present, recordOf, recordAt}
-use Rattle.records.proofs.Cursor.{at-record, stands, told}
-use Rattle.records.proofs.Positions.{third-right, length-right, filler-right, band-right, name-right}
+use Rattle.records.proofs.Cursor.{at-record, by-left, told, refused}
+use Rattle.records.proofs.Positions.{wrong-tells, third-right, length-right, filler-right, band-right, name-right}
 
 -- the n bytes of r from i on
 abbrev positions : List ℕ → ℕ → ℕ → List ℕ
@@ -115,23 +116,53 @@ module _ (bytes : List ℕ) (at : ℕ) where
   part-typed : ((i : ℕ) → byte bytes i < 2 ^ 8) → (i : ℕ) → i < 12 → byte (take 12 (drop at bytes)) i < 2 ^ 8
   part-typed typed i below = rw (getD-take 12 (drop at bytes) i 0 below, getD-drop at bytes i 0) (typed (at + i))
 
-  only : ((i : ℕ) → byte bytes i < 2 ^ 8) → (e : Entry) → recordAt bytes at ≡ Ok (Some e) → Sayable e at × (take 12 (drop at bytes) ≡ encoded e)
-  only typed e here =
+  found : ((i : ℕ) → byte bytes i < 2 ^ 8) → at + 12 ≤ length bytes → (e : Entry) → recordOf (take 12 (drop at bytes)) at ≡ Ok e → Says bytes at e
+  found typed whole e here =
       let r : List ℕ = take 12 (drop at bytes) in
-      let read = stands bytes at here in
-      let is = told r at (read .1) in
-      let long = part-long (read .0) in
+      let is = told r at here in
+      let long = part-long whole in
       let small = part-typed typed in
       ⊎-elim
       (λ (band-is : (isBand r ≡ true) × (e ≡ bandIn r)). subst (λ (x : Entry). Sayable x at × (r ≡ encoded x)) (sym (band-is .1)) (band-said r long small (is .0) at (band-is .0)))
       (λ (name-is : (isName r ≡ true) × (e ≡ nameIn r at)). subst (λ (x : Entry). Sayable x at × (r ≡ encoded x)) (sym (name-is .1)) (name-said r long small (is .0) at (name-is .0)))
       (is .1)
 
-  always : (e : Entry) → Sayable e at → take 12 (drop at bytes) ≡ encoded e → recordAt bytes at ≡ Ok (Some e)
-  always e can same =
-      let long : length (take 12 (drop at bytes)) ≡ 12 = ap length same ∙ encoded-long e at can in
-      let whole : at + 12 ≤ length bytes = omega (arith, long, length-take 12 (drop at bytes), length-drop at bytes) in
-      at-record bytes at whole ∙ ap present (ap (λ (r : List ℕ). recordOf r at) same ∙ encoded-read e at can)
+  pub says-whole : (e : Entry) → Says bytes at e → at + 12 ≤ length bytes
+  says-whole e says = omega (arith, ap length (says .1) ∙ encoded-long e at (says .0), length-take 12 (drop at bytes), length-drop at bytes)
 
-  pub found-exactly : ((i : ℕ) → byte bytes i < 2 ^ 8) → (answer : Result (Option Entry) RecordFault) → answer ≡ recordAt bytes at → Found bytes at answer
-  found-exactly typed answer is = record { only = λ e here. only typed e (sym is ∙ here); always = λ e can same. is ∙ always e can same }
+  finds : (e : Entry) → Says bytes at e → recordAt bytes at ≡ Ok (Some e)
+  finds e says = at-record bytes at (says-whole e says) ∙ ap present (ap (λ (r : List ℕ). recordOf r at) (says .1) ∙ encoded-read e at (says .0))
+
+module _ (bytes : List ℕ) (at : ℕ) (typed : (i : ℕ) → byte bytes i < 2 ^ 8) where
+  first-byte : byte (take 12 (drop at bytes)) 0 ≡ byte bytes at
+  first-byte = getD-take 12 (drop at bytes) 0 0 (omega arith) ∙ getD-drop at bytes 0 0 ∙ ap (byte bytes) (add-zero at)
+
+  -- what is told of a whole record
+  told-record : at + 12 ≤ length bytes → (x : Result Entry RecordFault) → recordOf (take 12 (drop at bytes)) at ≡ x → Told bytes at (present x)
+  told-record whole (Ok e) is = found bytes at typed whole e is
+  told-record whole (Err f) is = ⊎-elim unknown wrong (refused r at is)
+    where
+      r : List ℕ
+      r = take 12 (drop at bytes)
+
+      unknown : (isBand r || isName r ≡ false) × (f ≡ UnknownKind (byte r 0)) → Told bytes at (Err f)
+      unknown none =
+          let neither = or-parts (isBand r) (isName r) (none .0) in
+          subst (λ (g : RecordFault). Told bytes at (Err g)) (sym (none .1)) (whole, sym first-byte, eqb-false (byte r 0) 0x42 (neither .0), eqb-false (byte r 0) 0x4E (neither .1))
+
+      wrong : (isBand r || isName r ≡ true) × ((p : ℕ) × (wrongPosition r ≡ Some p) × (f ≡ WrongByte p)) → Told bytes at (Err f)
+      wrong some =
+          let first = wrong-tells r (some .1 .0) (some .1 .1) in
+          subst (λ (g : RecordFault). Told bytes at (Err g)) (sym (some .1 .2)) (whole, record { known = some .0; within = first .0; wrong = first .1; right = first .2 })
+
+  told-at : Told bytes at (recordAt bytes at)
+  told-at =
+      ⊎-elim
+      (λ (end : (length bytes ≤ at) × (recordAt bytes at ≡ Ok None)). subst (Told bytes at) (sym (end .1)) (end .0))
+      (⊎-elim
+      (λ (few : (at < length bytes) × (length bytes - at < 12) × (recordAt bytes at ≡ Err (Partial (length bytes - at)))). subst (Told bytes at) (sym (few .2)) (omega arith, few .1, omega arith))
+      (λ (whole : (at + 12 ≤ length bytes) × (recordAt bytes at ≡ present (recordOf (take 12 (drop at bytes)) at))). subst (Told bytes at) (sym (whole .1)) (told-record (whole .0) (recordOf (take 12 (drop at bytes)) at) refl)))
+      (by-left bytes at)
+
+  pub tells : (answer : Result (Option Entry) RecordFault) → answer ≡ recordAt bytes at → Tells bytes at answer
+  tells answer is = subst (Tells bytes at) (sym is) record { told = told-at; finds = finds bytes at }

@@ -40,9 +40,27 @@ module _ (test : ℕ → Bool) where
       ⊎-elim (λ (here : from ≡ k). rw here at first) (λ (past : from ≡ k → ⊥). none-passes (suc from) n later k (omega arith) (omega arith)) (cases-eq from k))
       (cases-bool (test from))
 
+  -- what a number that was found tells
+  lowest-tells : (from n p : ℕ) → lowest test from n ≡ Some p → (from ≤ p) × (p < from + n) × (test p ≡ true) × ((k : ℕ) → from ≤ k → k < p → test k ≡ false)
+  unfolding lowest
+  lowest-tells from zero p is = let z : _≡_ {A = ℕ} 0 1 = cc in absurd (omega arith)
+  lowest-tells from (suc n) p is =
+      ⊎-elim
+      (λ (first : test from ≡ true).
+      let same : Some from ≡ Some p = rw first at is in
+      let here : from ≡ p = cc in
+      (omega arith, omega arith, rw here at first, λ k lo hi. absurd (omega arith)))
+      (λ (first : test from ≡ false).
+      let later = lowest-tells (suc from) n p (rw first at is) in
+      (omega (arith, later .0), omega (arith, later .1), later .2, λ k lo hi. ⊎-elim (λ (here : from ≡ k). rw here at first) (λ (past : from ≡ k → ⊥). later .3 k (omega arith) hi) (cases-eq from k)))
+      (cases-bool (test from))
+
 -- p is the lowest wrong position of r
 wrong-is : (r : List ℕ) (p : ℕ) → p < 12 → wrongAt r p ≡ true → ((k : ℕ) → k < p → wrongAt r k ≡ false) → wrongPosition r ≡ Some p
 wrong-is r p within is before = lowest-is (wrongAt r) 0 12 p (omega arith) (omega arith) is (λ k lo. before k)
+
+pub wrong-tells : (r : List ℕ) (p : ℕ) → wrongPosition r ≡ Some p → (p < 12) × (wrongAt r p ≡ true) × ((k : ℕ) → k < p → wrongAt r k ≡ false)
+wrong-tells r p is = let tells-of = lowest-tells (wrongAt r) 0 12 p is in (omega (arith, tells-of .1), tells-of .2, λ k below. tells-of .3 k (omega arith) below)
 
 -- byte 3 of a record that is nowhere wrong is 00
 pub third-right : (r : List ℕ) → wrongPosition r ≡ None → byte r 3 ≡ 0

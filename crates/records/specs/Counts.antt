@@ -1,6 +1,8 @@
 -- How many of some records are bands, and how many are names.
-use mathlib.Core.List.{List, [], _∷_}
+use mathlib.Core.Bool.{Bool, true, false, not}
+use mathlib.Core.List.{List}
 use Prim.Native.Nat.{ℕ, _+_, _-_, _^_, min}
+use Rattle.std.specs.shelf.Lists.{countBy}
 use Rattle.records.specs.declared.counts.Counts.{Counts}
 use Rattle.records.specs.Format.{Entry, band, name}
 
@@ -15,15 +17,12 @@ abbrev pub withOne : Counts → Entry → Counts
 withOne c (band source target low high) = record { bands = upOne (c .bands); names = c .names }
 withOne c (name state place bytes) = record { bands = c .bands; names = upOne (c .names) }
 
-abbrev pub bandCount : List Entry → ℕ
-bandCount [] = 0
-bandCount (band source target low high ∷ es) = bandCount es + 1
-bandCount (name state place bytes ∷ es) = bandCount es
+abbrev pub isBandEntry : Entry → Bool
+isBandEntry (band source target low high) = true
+isBandEntry (name state place bytes) = false
 
-abbrev pub nameCount : List Entry → ℕ
-nameCount [] = 0
-nameCount (band source target low high ∷ es) = nameCount es
-nameCount (name state place bytes ∷ es) = nameCount es + 1
+abbrev pub isNameEntry : Entry → Bool
+isNameEntry e = not (isBandEntry e)
 
 abbrev pub countsOf : List Entry → Counts
-countsOf es = record { bands = bandCount es; names = nameCount es }
+countsOf es = record { bands = countBy isBandEntry es; names = countBy isNameEntry es }

@@ -3,9 +3,9 @@ ghost use mathlib.Core.Path.{_≡_};
 ghost use Prim.Native.Nat.{_+_, _^_, _<_, _≤_};
 ghost use lib.ListN.{length};
 ghost use Rattle.std.specs.declared.result.Result.the-variants.{Ok};
-ghost use Rattle.records.specs.Format.{byte, number, nameLength, bandIn, nameIn};
-ghost use Rattle.records.specs.Reading.{said};
-ghost use Rattle.records.specs.Twelve.{FirstNonzero, Held, HeldAs, InRecord, StandsAt};
+ghost use Rattle.records.specs.Format.{byte, number, nameLength, wrongPosition, bandIn, nameIn, unlessWrong, recordOf};
+ghost use Rattle.records.specs.OneRecord.{FirstNonzero, InRecord, ReadAs};
+ghost use Rattle.records.specs.Reading.{said, StandsAt};
 use crate::fault::RecordFault;
 use crate::record::Record;
 
@@ -34,7 +34,7 @@ pub(crate) fn record_at(bytes: &[u8], at: usize) -> Result<Option<Record<'_>>, R
 fn whole_record(bytes: &[u8], at: usize) -> Result<Record<'_>, RecordFault>
     requires whole { ⌜ length (now bytes) ≡ 12 ⌝ }
     requires within { ⌜ at + 12 < 2 ^ 64 ⌝ }
-    ensures { λ r. ⌜ Held (bytes .entry) at r ⌝ }
+    ensures { λ r. ⌜ ReadAs (bytes .entry) (recordOf (now (bytes .entry)) at) r ⌝ }
 {
     match bytes[0] {
         BAND => band_record(bytes),
@@ -46,7 +46,7 @@ fn whole_record(bytes: &[u8], at: usize) -> Result<Record<'_>, RecordFault>
 fn band_record(bytes: &[u8]) -> Result<Record<'_>, RecordFault>
     requires whole { ⌜ length (now bytes) ≡ 12 ⌝ }
     requires band { ⌜ byte (now bytes) 0 ≡ 0x42 ⌝ }
-    ensures { λ r. ⌜ HeldAs (bytes .entry) (bandIn (now (bytes .entry))) r ⌝ }
+    ensures { λ r. ⌜ ReadAs (bytes .entry) (unlessWrong (wrongPosition (now (bytes .entry))) (bandIn (now (bytes .entry)))) r ⌝ }
 {
     if bytes[3] != 0 {
         return Err(RecordFault::WrongByte { position: 3 });
@@ -78,7 +78,7 @@ fn name_record(bytes: &[u8], at: usize) -> Result<Record<'_>, RecordFault>
     requires whole { ⌜ length (now bytes) ≡ 12 ⌝ }
     requires name { ⌜ byte (now bytes) 0 ≡ 0x4E ⌝ }
     requires within { ⌜ at + 12 < 2 ^ 64 ⌝ }
-    ensures { λ r. ⌜ HeldAs (bytes .entry) (nameIn (now (bytes .entry)) at) r ⌝ }
+    ensures { λ r. ⌜ ReadAs (bytes .entry) (unlessWrong (wrongPosition (now (bytes .entry))) (nameIn (now (bytes .entry)) at)) r ⌝ }
 {
     let length = bytes[2];
     if !is_name_length(length) {

@@ -1,2 +1,2 @@
--- The definitions that the contracts of this crate cite.
+-- The definitions that contracts cite, here and in the crates above.
 pub mod Numbers

@@ -1,14 +1,15 @@
 -- When a text fits, and what is then written.
-use mathlib.Core.Path.{_≡_, refl, sym, ap, _∙_}
+use mathlib.Core.Path.{_≡_, refl, sym, ap, subst, _∙_}
 use mathlib.Core.Bool.{Bool, true, false, cond}
 use mathlib.Core.List.{List, [], _∷_, _++_}
+use mathlib.Core.Logic.{⊎-elim}
 use Prim.Native.Nat.{ℕ, _+_, _-_, _^_, _≤_, _<_, min}
 use native.Mathlib.Nat.{add-zero}
 use native.Mathlib.Omega.{arith}
 use lib.Dec.{leb}
 use lib.ListN.{length, take, drop, set}
 use Rattle.std.proofs.shelf.Lists.{append-assoc, drop-at, drop-drop, drop-more, length-append, length-push, length-take-le, set-at, take-append-drop, take-at}
-use Rattle.std.proofs.shelf.Tests.{le-leb, lt-leb, leb-true, leb-false}
+use Rattle.std.proofs.shelf.Tests.{cases-lt, le-leb, lt-leb, leb-true, leb-false}
 use Rattle.std.specs.declared.result.Result.{Result}
 use Rattle.std.specs.declared.result.Result.the-variants.{Ok, Err}
 use Rattle.text.specs.declared.room.TooShort.{TooShort}
@@ -30,9 +31,15 @@ module _ (len at count : ℕ) where
       by-test true fits e = let z : _≡_ {A = ℕ} 0 1 = cc in absurd (omega arith)
       by-test false short e = (leb-false (at + count) len short, cc)
 
--- the same, of a length that is capped at 64 bits
-pub capped-fits : (len at count : ℕ) → len < 2 ^ 64 - 1 → (capped : ℕ) {end : ℕ} → capped ≡ min count (2 ^ 64 - 1) → Ok end ≡ endOf len at capped → at + count ≤ len
-capped-fits len at count small capped {end} cap here = omega (arith, ends len at capped end here .0)
+-- a count capped at 64 bits ends where the whole does
+pub capped-end : (len at count capped : ℕ) → len < 2 ^ 64 - 1 → capped ≡ min count (2 ^ 64 - 1) → endOf len at capped ≡ endOf len at count
+capped-end len at count capped small cap =
+    ⊎-elim
+    (λ (fits : count < 2 ^ 64). let same : capped ≡ count = omega arith in ap (endOf len at) same)
+    (λ (past : 2 ^ 64 ≤ count).
+    let need : min (at + capped) (2 ^ 64 - 1) ≡ min (at + count) (2 ^ 64 - 1) = omega arith in
+    rw (lt-leb (at + capped) len (omega arith), lt-leb (at + count) len (omega arith), need))
+    (cases-lt count (2 ^ 64))
 
 module _ (old : List ℕ) (at : ℕ) (ys : List ℕ) where
   pub put : (new : List ℕ) → at + length ys ≤ length old → new ≡ overlaid old at ys → Put old at ys new (Ok (at + length ys))
@@ -77,14 +84,37 @@ overlaid-append old at xs ys fits =
     let regrouped : front ++ (ys ++ drop (n + length ys) old) ≡ take at old ++ ((xs ++ ys) ++ drop (n + length ys) old) = simp append-assoc in
     rw (whole, take-at front (drop n old) n long, later, end) regrouped
 
--- a text put after another is put with it
-module _ (old : List ℕ) (at : ℕ) (xs ys : List ℕ) (room : at + length (xs ++ ys) ≤ length old) {text : List ℕ} {end : ℕ} (before : text ≡ overlaid old at xs) (here : end ≡ at + length xs) (long : length text ≡ length old) where
-  pub after-fits : end + length ys ≤ length text
-  after-fits = omega (arith, length-append xs ys)
+-- xs stands from `at` up to `end` in a text that was old
+pub record Laid (old : List ℕ) (at : ℕ) (xs text : List ℕ) (end : ℕ) : Type 0 where
+  pub long : length text ≡ length old
+  pub ends : end ≡ at + length xs
+  pub writes : text ≡ overlaid old at xs
 
-  pub after : {new : List ℕ} {r : Result ℕ TooShort} → Put text end ys new r → (r ≡ Ok (at + length (xs ++ ys))) × (new ≡ overlaid old at (xs ++ ys))
-  after p =
-      let put = done text end ys p after-fits in
-      let joined : overlaid text end ys ≡ overlaid old at (xs ++ ys) = rw (before, here) (overlaid-append old at xs ys (omega (arith, length-append xs ys))) in
-      let end-is : end + length ys ≡ at + length (xs ++ ys) = omega (arith, length-append xs ys) in
-      (rw end-is at (put .0), put .1 ∙ joined)
+pub none-laid : (old : List ℕ) (at : ℕ) → Laid old at [] old at
+none-laid old at = record { long = refl; ends = sym (add-zero at); writes = sym (overlaid-none old at) }
+
+module _ {old : List ℕ} {at : ℕ} {xs text : List ℕ} {end : ℕ} (laid : Laid old at xs text end) where
+  pub all-laid : at + length xs ≤ length old → Put old at xs text (Ok end)
+  all-laid room = rw (laid .ends) (put old at xs text room (laid .writes))
+
+  -- and ys after it, for which there is room
+  module _ (ys : List ℕ) (room : at + length (xs ++ ys) ≤ length old) where
+    pub next-fits : end + length ys ≤ length text
+    next-fits = omega (arith, length-append xs ys, laid .long, laid .ends)
+
+    both-laid : {new : List ℕ} {r : Result ℕ TooShort} → Put text end ys new r → (r ≡ Ok (at + length (xs ++ ys))) × (new ≡ overlaid old at (xs ++ ys))
+    both-laid p =
+        let one = done text end ys p next-fits in
+        let joined : overlaid text end ys ≡ overlaid old at (xs ++ ys) = rw (laid .writes, laid .ends) (overlaid-append old at xs ys (omega (arith, length-append xs ys))) in
+        let end-is : end + length ys ≡ at + length (xs ++ ys) = omega (arith, length-append xs ys, laid .ends) in
+        (rw end-is at (one .0), one .1 ∙ joined)
+
+    pub next-laid : (new : List ℕ) (next : ℕ) → length new ≡ length text → Put text end ys new (Ok next) → Laid old at (xs ++ ys) new next
+    next-laid new next kept p =
+        let both = both-laid p in
+        record { long = kept ∙ laid .long; ends = cc (both .0); writes = both .1 }
+
+    pub last-laid : {new : List ℕ} {r : Result ℕ TooShort} → Put text end ys new r → Put old at (xs ++ ys) new r
+    last-laid {new} {r} p =
+        let both = both-laid p in
+        subst (Put old at (xs ++ ys) new) (sym (both .0)) (put old at (xs ++ ys) new room (both .1))

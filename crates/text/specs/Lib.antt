@@ -1,4 +1,4 @@
--- The definitions that the contracts of this crate cite.
+-- The definitions that contracts cite, here and in the crates above.
 pub mod Pieces
 pub mod Puts
 pub mod Refused
