@@ -10,9 +10,11 @@ pub trait Amount: Copy {
 
     law laws: { Laws kind };
 
+    /// The neutral amount.
     fn nothing() -> Self
         ensures { λ r. ⌜ r ≡ kind .nothing ⌝ };
 
+    /// What the amounts of a row come to.
     fn full() -> Self
         ensures { λ r. ⌜ r ≡ kind .full ⌝ };
 
@@ -20,16 +22,19 @@ pub trait Amount: Copy {
     fn grain() -> Self
         ensures { λ r. ⌜ r ≡ kind .grain ⌝ };
 
+    /// Both amounts together.
     fn total(self, other: Self) -> Self
         ensures { λ r. ⌜ r ≡ kind .total self other ⌝ };
 
+    /// The order of amounts, which may be partial.
     fn at_most(self, other: Self) -> bool
         ensures { λ r. ⌜ r ≡ kind .atMost self other ⌝ };
 
+    /// The least amount that both are at most.
     fn larger(self, other: Self) -> Self
         ensures { λ r. ⌜ r ≡ kind .larger self other ⌝ };
 
-    /// Splits `self` between two sides. Outside the premise of the law it answers any two amounts.
+    /// Splits `self` between two pairs of bounds. Where no split is possible it answers any two amounts.
     fn share_out(self, own: Bounds<Self>, others: Bounds<Self>) -> Parts<Self>
         ensures { λ r. ⌜ (Shareable kind self own others → r ≡ kind .shareOut self own others) ⌝ };
 }

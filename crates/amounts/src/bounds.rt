@@ -1,5 +1,6 @@
 // Two bounds on an amount, and the two amounts that a share-out gives.
 
+/// A low and a high amount.
 #[derive(Clone, Copy)]
 pub struct Bounds<K> {
     pub low: K,

@@ -52,7 +52,7 @@ pub impl Amount for Share as ShareAmount {
     fn share_out(self, own: Bounds<Share>, others: Bounds<Share>) -> Parts<Share>
         ensures { λ r. ⌜ (Shareable shares self own others → r ≡ shares .shareOut self own others) ⌝ }
     {
-        // An `others.high` that is over lies above every number that is not, so it leaves 0.
+        // Where the law holds, `self` is no more than full: an `others.high` that is over leaves 0.
         let unplaced = self.number.saturating_sub(others.high.number);
         let given = own.low.number.max(unplaced);
         Parts {

@@ -6,6 +6,7 @@ use listings::list::INPUT_BYTES;
 use listings::list::TEXT_BYTES;
 use listings::list::list;
 use std::io;
+use std::io::ErrorKind;
 use std::io::Read;
 use std::io::Write;
 
@@ -23,18 +24,20 @@ fn main(rt: LibcRuntime) -> io::Result<()> {
     }
 }
 
-/// Reads until the input ends or the bytes are full.
+/// Reads until the input ends or the bytes are full. A read that is interrupted is made again.
 fn read_all(rt: &LibcRuntime, bytes: &mut [u8]) -> io::Result<usize>
     ensures { λ r. ⌜ made r (λ n. n ≤ length (now (bytes .entry))) ⌝ }
 {
     let mut input = rt.stdin();
     let mut count = 0;
-    while count < bytes.len() {
-        let got = input.read(&mut bytes[count..])?;
-        if got == 0 {
-            break;
+    // Nothing says that an input ends, so the reads are counted.
+    for _ in 0..u64::MAX {
+        match input.read(&mut bytes[count..]) {
+            Ok(0) => break,
+            Ok(got) => count += got,
+            Err(fault) if fault.kind() == ErrorKind::Interrupted => {}
+            Err(fault) => return Err(fault),
         }
-        count += got;
     }
     Ok(count)
 }

@@ -17,10 +17,7 @@ fn lists(records: &[u8], lines: &[u8]) -> Result<(), Fail> {
     let end = list(records, &mut text)?;
     check(end < text.len())?;
     check(&text[0..end] == lines)?;
-    for byte in &text[end..] {
-        check(*byte == b'#')?;
-    }
-    Ok(())
+    check(untouched(&text[end..]))
 }
 
 #[test]
@@ -87,11 +84,29 @@ fn one_byte_more_is_refused() -> Result<(), Fail> {
     lists(&records, b"refused 8 record 0 place 0\n")
 }
 
+/// Whether every byte is still `#`.
+fn untouched(bytes: &[u8]) -> bool {
+    for byte in bytes {
+        if *byte != b'#' {
+            return false;
+        }
+    }
+    true
+}
+
 #[test]
 fn a_short_text_is_refused_and_left() -> Result<(), Fail> {
-    let mut text = [b'#'; TEXT_BYTES];
+    let mut text = [b'#'; TEXT_BYTES - 1];
     let need = Refusal::ShortList { need: 180_000 };
-    check_eq(list(&[], &mut text[0..TEXT_BYTES - 1]), Err(need))?;
-    check_eq(text[0], b'#')?;
+    check_eq(list(&[], &mut text), Err(need))?;
+    check(untouched(&text))?;
     check_eq(list(&[], &mut []), Err(need))
+}
+
+#[test]
+fn a_longer_text_is_left_past_the_listing() -> Result<(), Fail> {
+    let mut text = [b'#'; TEXT_BYTES + 1];
+    check_eq(list(&[], &mut text), Ok(17))?;
+    check(&text[0..17] == b"0 bands, 0 names\n")?;
+    check(untouched(&text[17..]))
 }

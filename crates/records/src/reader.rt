@@ -6,6 +6,7 @@ use crate::format::RECORD_BYTES;
 use crate::format::record_at;
 use crate::record::Record;
 
+/// A cursor over the caller's bytes. It may stand anywhere, also within a record or past the end.
 #[derive(Clone, Copy)]
 pub struct Reader<'a> {
     pub bytes: &'a [u8],

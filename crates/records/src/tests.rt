@@ -228,6 +228,19 @@ fn counts_go_by_kind() -> Result<(), Fail> {
 }
 
 #[test]
+fn a_count_stops_at_the_largest_number() -> Result<(), Fail> {
+    let full = Counts {
+        bands: usize::MAX,
+        names: 0,
+    };
+    let mut reader = Reader::new(&BAND);
+    let Some(entry) = reader.next()? else {
+        return Err(Fail::new("no record"));
+    };
+    check_eq(full.with(&entry), full)
+}
+
+#[test]
 fn a_fault_is_its_refusal() -> Result<(), Fail> {
     let partial: Refusal = RecordFault::Partial { bytes: 11 }.into();
     check_eq(partial, Refusal::PartialRecord { bytes: 11 })?;

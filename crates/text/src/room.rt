@@ -5,7 +5,7 @@ ghost use Rattle.refusals.specs.declared.Refusal.the-variants.{ShortList};
 ghost use Rattle.text.specs.Puts.{endOf};
 use refusals::Refusal;
 
-/// The caller's bytes end before the text does. The need is the largest `usize` where even that is too few.
+/// The caller's bytes end before the text does: how many would be needed, or the largest `usize` if that is fewer.
 #[derive(Clone, Copy, PartialEq, Eq, Debug)]
 pub struct TooShort {
     pub need: usize,

@@ -24,16 +24,36 @@ fn a_word_lies_between_untouched_bytes() -> Result<(), Fail> {
 }
 
 #[test]
-fn what_does_not_fit_is_not_written() -> Result<(), Fail> {
+fn every_kind_fits_just_so() -> Result<(), Fail> {
+    let mut text = *b"........";
+    check_eq(put_word(&mut text, 4, b"word"), Ok(8))?;
+    check(&text == b"....word")?;
+    check_eq(put_decimal(&mut text, 5, 100), Ok(8))?;
+    check(&text == b"....w100")?;
+    check_eq(put_hex(&mut text, 6, &[0xab]), Ok(8))?;
+    check(&text == b"....w1AB")?;
+    check_eq(put_all(&mut text, 7, &[Piece::Decimal(7)]), Ok(8))?;
+    check(&text == b"....w1A7")
+}
+
+#[test]
+fn a_byte_too_long_is_not_written() -> Result<(), Fail> {
     let mut text = *b"........";
     check_eq(put_word(&mut text, 5, b"word"), Err(TooShort { need: 9 }))?;
     check_eq(put_word(&mut text, 9, b""), Err(TooShort { need: 9 }))?;
     check_eq(put_decimal(&mut text, 6, 100), Err(TooShort { need: 9 }))?;
     check_eq(put_hex(&mut text, 7, &[0]), Err(TooShort { need: 9 }))?;
-    let most = usize::MAX;
+    check(&text == b"........")
+}
+
+#[test]
+fn a_need_stops_at_the_largest_number() -> Result<(), Fail> {
+    let mut text = *b"........";
+    let largest = TooShort { need: usize::MAX };
+    check_eq(put_word(&mut text, usize::MAX, b"word"), Err(largest))?;
     check_eq(
-        put_word(&mut text, most, b"word"),
-        Err(TooShort { need: most }),
+        put_all(&mut text, usize::MAX, &[Piece::Word(b"word")]),
+        Err(largest),
     )?;
     check(&text == b"........")
 }
@@ -81,6 +101,10 @@ fn pieces_are_put_together_or_not_at_all() -> Result<(), Fail> {
 fn a_refusal_has_its_line() -> Result<(), Fail> {
     let mut text = [b'.'; 32];
     let refusal = Refusal::UnknownRecord { byte: 65 };
+    check_eq(
+        put_refused(&mut text[0..28], 0, refusal, 12),
+        Err(TooShort { need: 29 }),
+    )?;
     check_eq(put_refused(&mut text, 0, refusal, 12), Ok(29))?;
     check(&text == b"refused 5 record 12 place 65\n...")
 }

@@ -1,10 +1,7 @@
--- `read_all`: each turn reads at least one byte.
-use Prim.Native.Nat.{_-_, _≤_}
+-- `read_all`: what is read lies within the bytes.
+use Prim.Native.Nat.{_≤_}
 use lib.ListN.{length}
 use Rattle.inspect.proofs.read_all.Given as given
 
-abbrev pub Inv-loop-count : given.InvT-loop-count
-Inv-loop-count l = l .count ≤ length (l .entry .bytes)
-
-abbrev pub μ-loop-count : given.MeasureT-loop-count
-μ-loop-count l = length (l .entry .bytes) - l .count
+abbrev pub Inv-loop : given.InvT-loop
+Inv-loop l = l .count ≤ length (l .entry .bytes)
