@@ -10,21 +10,21 @@ use Rattle.amounts.specs.declared.grades.Grade.{Grade}
 abbrev pub grade : ℕ → Grade
 grade n = record { number = n }
 
-abbrev pub highest : Grade → Grade → Grade
-highest x y = grade (max (x .number) (y .number))
+abbrev pub higherOf : Grade → Grade → Grade
+higherOf x y = grade (max (x .number) (y .number))
 
-abbrev pub lowest : Grade → Grade → Grade
-lowest x y = grade (min (x .number) (y .number))
+abbrev pub lowerOf : Grade → Grade → Grade
+lowerOf x y = grade (min (x .number) (y .number))
 
 abbrev pub grades : Kind Grade
 grades = record {
   nothing = grade 0;
   full = grade 1_000;
   grain = grade 1;
-  total = highest;
+  total = higherOf;
   atMost = λ x y. leb (x .number) (y .number);
-  larger = highest;
-  shareOut = λ r own others. record { own = lowest (own .high) r; others = lowest (others .high) r };
+  larger = higherOf;
+  shareOut = λ r own others. record { own = lowerOf (own .high) r; others = lowerOf (others .high) r };
 }
 
 -- in records 0 to full stand for themselves

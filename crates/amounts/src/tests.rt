@@ -99,7 +99,7 @@ fn grade(number: u32) -> Grade {
     Grade { number }
 }
 
-// Full is the fourth edge of both kinds: up to it a number stands for itself, past it for nothing.
+// Full is the fourth edge of both kinds: up to it a number stands for itself, past it for no amount.
 fn up_to_full(edges: &[u32; 6], i: usize) -> Option<u32> {
     if i <= 3 { Some(edges[i]) } else { None }
 }
@@ -113,11 +113,10 @@ fn shares_have_their_constants() -> Result<(), Fail> {
 
 #[test]
 fn shares_add_up_to_over() -> Result<(), Fail> {
-    for i in 0..6 {
-        for j in 0..6 {
-            let total = share(SHARES[i]).total(share(SHARES[j]));
-            check_eq(total.number, SHARE_TOTALS[i][j])?;
-        }
+    for pair in 0..36 {
+        let (i, j) = (pair / 6, pair % 6);
+        let total = share(SHARES[i]).total(share(SHARES[j]));
+        check_eq(total.number, SHARE_TOTALS[i][j])?;
     }
     let over = share(600_000).total(share(600_000));
     check(!over.at_most(Share::full()))
@@ -125,22 +124,20 @@ fn shares_add_up_to_over() -> Result<(), Fail> {
 
 #[test]
 fn shares_are_ordered_up_to_over() -> Result<(), Fail> {
-    for i in 0..6 {
-        for j in 0..6 {
-            let at_most = share(SHARES[i]).at_most(share(SHARES[j]));
-            check_eq(at_most, SHARES_AT_MOST[i][j])?;
-        }
+    for pair in 0..36 {
+        let (i, j) = (pair / 6, pair % 6);
+        let at_most = share(SHARES[i]).at_most(share(SHARES[j]));
+        check_eq(at_most, SHARES_AT_MOST[i][j])?;
     }
     Ok(())
 }
 
 #[test]
 fn the_larger_share_is_the_later_edge() -> Result<(), Fail> {
-    for i in 0..6 {
-        for j in 0..6 {
-            let larger = share(SHARES[i]).larger(share(SHARES[j]));
-            check_eq(larger.number, SHARES[i.max(j)])?;
-        }
+    for pair in 0..36 {
+        let (i, j) = (pair / 6, pair % 6);
+        let larger = share(SHARES[i]).larger(share(SHARES[j]));
+        check_eq(larger.number, SHARES[i.max(j)])?;
     }
     Ok(())
 }
@@ -184,24 +181,22 @@ fn grades_have_their_constants() -> Result<(), Fail> {
 
 #[test]
 fn the_total_and_the_larger_grade_are_the_later_edge() -> Result<(), Fail> {
-    for i in 0..6 {
-        for j in 0..6 {
-            let x = grade(GRADES[i]);
-            let y = grade(GRADES[j]);
-            check_eq(x.total(y).number, GRADES[i.max(j)])?;
-            check_eq(x.larger(y).number, GRADES[i.max(j)])?;
-        }
+    for pair in 0..36 {
+        let (i, j) = (pair / 6, pair % 6);
+        let x = grade(GRADES[i]);
+        let y = grade(GRADES[j]);
+        check_eq(x.total(y).number, GRADES[i.max(j)])?;
+        check_eq(x.larger(y).number, GRADES[i.max(j)])?;
     }
     check_eq(grade(1_000).total(grade(1_000)).number, 1_000)
 }
 
 #[test]
 fn grades_are_ordered_as_numbers() -> Result<(), Fail> {
-    for i in 0..6 {
-        for j in 0..6 {
-            let at_most = grade(GRADES[i]).at_most(grade(GRADES[j]));
-            check_eq(at_most, GRADES_AT_MOST[i][j])?;
-        }
+    for pair in 0..36 {
+        let (i, j) = (pair / 6, pair % 6);
+        let at_most = grade(GRADES[i]).at_most(grade(GRADES[j]));
+        check_eq(at_most, GRADES_AT_MOST[i][j])?;
     }
     Ok(())
 }

@@ -26,7 +26,7 @@ use Rattle.text.proofs.Writes as writes
 use Rattle.text.specs.Puts.{Put}
 use Rattle.text.specs.Refused.{refusedLine}
 use Rattle.text.specs.declared.room.TooShort.{TooShort}
-use Rattle.listings.specs.Listing.{line, countsLine, closing, told}
+use Rattle.listings.specs.Listing.{line, countsLine, closing, linesOf}
 use Rattle.listings.proofs.LineLengths.{line-short, counts-short}
 
 -- the records before the cursor are told in the text, which has room for all
@@ -60,7 +60,7 @@ module _ {bytes old : List ℕ} {reader : Reader} {text : List ℕ} {end : ℕ} 
       step bytes (reader .cursor) ∙ ap (λ (b : Result (Option Entry) RecordFault). andThen b (contentsFrom bytes (reader .cursor + 12))) (sym same)
 
   -- where no record stands at the cursor, all records are seen
-  told-all : (o : Option RecordFault) → contentsFrom bytes (reader .cursor) ≡ record { entries = []; ending = o } → told (contents bytes) ≡ joined line (sofar .seen) ++ closing (sofar .seen) o
+  told-all : (o : Option RecordFault) → contentsFrom bytes (reader .cursor) ≡ record { entries = []; ending = o } → linesOf (contents bytes) ≡ joined line (sofar .seen) ++ closing (sofar .seen) o
   told-all o last =
       let all : contents bytes .entries ≡ sofar .seen = sofar .entries ∙ ap (λ (c : Contents). sofar .seen ++ c .entries) last ∙ append-nil (sofar .seen) in
       let end-is : contents bytes .ending ≡ o = sofar .ending ∙ ap (λ (c : Contents). c .ending) last in
@@ -68,9 +68,9 @@ module _ {bytes old : List ℕ} {reader : Reader} {text : List ℕ} {end : ℕ} 
 
   -- what `put_records` ensures, once the closing line is put
   abbrev Closed : List ℕ → Result ℕ TooShort → Type 0
-  Closed new r = Put old 0 (told (contents bytes)) new r × (length (told (contents bytes)) ≤ 180_000)
+  Closed new r = Put old 0 (linesOf (contents bytes)) new r × (length (linesOf (contents bytes)) ≤ 180_000)
 
-  closed : (last : List ℕ) → told (contents bytes) ≡ joined line (sofar .seen) ++ last → length last ≤ 67 → {new : List ℕ} {r : Result ℕ TooShort} → Put text end last new r → Closed new r
+  closed : (last : List ℕ) → linesOf (contents bytes) ≡ joined line (sofar .seen) ++ last → length last ≤ 67 → {new : List ℕ} {r : Result ℕ TooShort} → Put text end last new r → Closed new r
   closed last whole short {new} {r} p =
       let ys : List ℕ = joined line (sofar .seen) ++ last in
       let fits : length ys ≤ 180_000 = omega (arith, length-append (joined line (sofar .seen)) last, sofar .short, few-seen) in

@@ -42,12 +42,12 @@ abbrev pub closing : List Entry → Option RecordFault → List ℕ
 closing entries None = countsLine (countsOf entries)
 closing entries (Some fault) = refusedLine (refusalOf fault) (length entries)
 
-abbrev pub told : Contents → List ℕ
-told held = joined line (held .entries) ++ closing (held .entries) (held .ending)
+abbrev pub linesOf : Contents → List ℕ
+linesOf held = joined line (held .entries) ++ closing (held .entries) (held .ending)
 
 -- what is printed of an input: at most 61,440 bytes are looked at
 abbrev pub listing : List ℕ → List ℕ
-listing bytes = cond (ltb 61_440 (length bytes)) (refusedLine LongInput 0) (told (contents bytes))
+listing bytes = cond (ltb 61_440 (length bytes)) (refusedLine LongInput 0) (linesOf (contents bytes))
 
 -- a text under 180,000 bytes, which every listing fits, is refused and left as it was; later bytes are never touched.
 -- What is listed is what the input holds.

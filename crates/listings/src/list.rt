@@ -1,7 +1,7 @@
 // The listing of a whole record file.
 ghost use Prim.Native.Nat.{_≤_};
 ghost use lib.ListN.{length};
-ghost use Rattle.listings.specs.Listing.{told, Listed};
+ghost use Rattle.listings.specs.Listing.{linesOf, Listed};
 ghost use Rattle.records.specs.Contents.{Holds, contents};
 ghost use Rattle.text.specs.Puts.{Put};
 use crate::lines::put_counts;
@@ -38,8 +38,8 @@ pub fn list(records: &[u8], text: &mut [u8]) -> Result<usize, Refusal>
 fn put_records(text: &mut [u8], records: &[u8]) -> Result<usize, TooShort>
     requires room { ⌜ 180000 ≤ length (now text) ⌝ }
     requires few { ⌜ length (now records) ≤ 61440 ⌝ }
-    ensures writes { λ r. ⌜ Put (now (text .entry)) 0 (told (contents (now (records .entry)))) (now (text .exit)) r ⌝ }
-    ensures short { λ _. ⌜ length (told (contents (now (records .entry)))) ≤ 180000 ⌝ }
+    ensures writes { λ r. ⌜ Put (now (text .entry)) 0 (linesOf (contents (now (records .entry)))) (now (text .exit)) r ⌝ }
+    ensures short { λ _. ⌜ length (linesOf (contents (now (records .entry)))) ≤ 180000 ⌝ }
     ensures holds { λ _. ⌜ Holds (now (records .entry)) (contents (now (records .entry))) ⌝ }
 {
     let mut reader = Reader::new(records);

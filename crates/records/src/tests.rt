@@ -155,22 +155,22 @@ fn a_wrong_name_length_is_below_every_filler() -> Result<(), Fail> {
 
 #[test]
 fn the_lowest_wrong_filler_counts() -> Result<(), Fail> {
-    for length in 1..9usize {
-        for wrong in 1..12usize {
-            let mut bytes = [0u8; 12];
-            bytes[0] = 0x4E;
-            bytes[wrong] = 1;
-            bytes[11] = 1;
-            bytes[2] = length as u8;
-            let filler = wrong == 3 || wrong >= 4 + length;
-            let last = length < 8;
-            let fault = match (filler, last) {
-                (true, _) => Some(RecordFault::WrongByte { position: wrong }),
-                (false, true) => Some(RecordFault::WrongByte { position: 11 }),
-                (false, false) => None,
-            };
-            check_eq(fault_in(&bytes), fault)?;
-        }
+    for pair in 0..88usize {
+        let length = 1 + pair / 11;
+        let wrong = 1 + pair % 11;
+        let mut bytes = [0u8; 12];
+        bytes[0] = 0x4E;
+        bytes[wrong] = 1;
+        bytes[11] = 1;
+        bytes[2] = length as u8;
+        let filler = wrong == 3 || wrong >= 4 + length;
+        let last = length < 8;
+        let fault = match (filler, last) {
+            (true, _) => Some(RecordFault::WrongByte { position: wrong }),
+            (false, true) => Some(RecordFault::WrongByte { position: 11 }),
+            (false, false) => None,
+        };
+        check_eq(fault_in(&bytes), fault)?;
     }
     Ok(())
 }

@@ -7,10 +7,10 @@ use Rattle.text.specs.Puts.{hexadecimal}
 use Rattle.text.specs.declared.piece.Piece.{Piece}
 use Rattle.text.specs.declared.piece.Piece.the-variants.{Word, Decimal, Hex}
 
-abbrev pub said : Piece → List ℕ
-said (Word word) = word .now
-said (Decimal number) = decimal number
-said (Hex bytes) = hexadecimal (bytes .now)
+abbrev pub bytesOf : Piece → List ℕ
+bytesOf (Word word) = word .now
+bytesOf (Decimal number) = decimal number
+bytesOf (Hex bytes) = hexadecimal (bytes .now)
 
 abbrev pub printed : List Piece → List ℕ
-printed pieces = joined said pieces
+printed pieces = joined bytesOf pieces

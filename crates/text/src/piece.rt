@@ -2,7 +2,7 @@
 ghost use mathlib.Core.Path.{_≡_};
 ghost use Prim.Native.Nat.{_+_, _-_, _^_, _≤_, _<_, min};
 ghost use lib.ListN.{length};
-ghost use Rattle.text.specs.Pieces.{said, printed};
+ghost use Rattle.text.specs.Pieces.{bytesOf, printed};
 ghost use Rattle.text.specs.Puts.{Put, endOf};
 use crate::decimal::decimal_len;
 use crate::decimal::put_decimal;
@@ -40,7 +40,7 @@ fn put_each(text: &mut [u8], at: usize, pieces: &[Piece<'_>]) -> Result<usize, T
 }
 
 fn put_piece(text: &mut [u8], at: usize, piece: &Piece<'_>) -> Result<usize, TooShort>
-    ensures { λ r. ⌜ Put (now (text .entry)) at (said (now (piece .entry))) (now (text .exit)) r ⌝ }
+    ensures { λ r. ⌜ Put (now (text .entry)) at (bytesOf (now (piece .entry))) (now (text .exit)) r ⌝ }
 {
     match piece {
         Piece::Word(word) => put_word(text, at, word),
@@ -69,7 +69,7 @@ fn pieces_len(pieces: &[Piece<'_>]) -> usize
 }
 
 fn piece_len(piece: &Piece<'_>) -> usize
-    ensures { λ r. ⌜ r ≡ length (said (now (piece .entry))) ⌝ }
+    ensures { λ r. ⌜ r ≡ length (bytesOf (now (piece .entry))) ⌝ }
 {
     match piece {
         Piece::Word(word) => word.len(),
