@@ -1,4 +1,6 @@
 // Input: the bytes of standard input, read into the caller's memory.
+#![tactic(auto)]
+
 ghost use Rattle.std.specs.Prelude.{◌≤◌, length, IfOk};
 
 use std::io;

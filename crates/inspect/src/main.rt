@@ -1,4 +1,6 @@
 // inspect: lists the record file on standard input.
+#![tactic(auto)]
+
 ghost use Rattle.std.specs.Prelude.{◌≤◌, length, IfOk};
 
 use listings::list::{INPUT_BYTES, TEXT_BYTES, list};

@@ -1,4 +1,6 @@
 // Listings: the text that tells what a record file holds.
+#![tactic(auto)]
+
 mod lines;
 pub mod list;
 #[cfg(test)]

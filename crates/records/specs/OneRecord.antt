@@ -14,7 +14,7 @@ said_of (Err f) = Err f
 -- a name lies in the record's own bytes
 abbrev pub InRecord : Bor (List ℕ) → Result Record RecordFault → Type 0
 InRecord r (Ok (Band source target low high)) = Unit {0}
-InRecord r (Ok (Name state place part)) = part.ptr ≡ (r.ptr.0, r.ptr.1 + 4)
+InRecord r (Ok (Name state place part)) = part.ref_ptr ≡ (r.ref_ptr.0, r.ref_ptr.1 + 4)
 InRecord r (Err f) = Unit {0}
 
 -- the bytes r are read as a, where `want` is what the format has of them

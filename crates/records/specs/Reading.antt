@@ -21,7 +21,7 @@ answered (Err f) = Err f
 -- a name lies in the input itself, at its place
 abbrev pub InPlace : ℕ × ℕ → Record → Type 0
 InPlace origin (Band source target low high) = Unit {0}
-InPlace origin (Name state place part) = part.ptr ≡ (origin.0, origin.1 + place)
+InPlace origin (Name state place part) = part.ref_ptr ≡ (origin.0, origin.1 + place)
 
 abbrev pub NoCopy : ℕ × ℕ → Result (Option Record) RecordFault → Type 0
 NoCopy origin (Ok None) = Unit {0}

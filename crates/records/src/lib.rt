@@ -1,4 +1,6 @@
 // Records: the twelve-byte record format, read from the caller's bytes without a copy.
+#![tactic(auto)]
+
 pub mod counts;
 pub mod fault;
 mod format;

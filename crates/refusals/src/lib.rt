@@ -1,4 +1,6 @@
 // Refusals: the closed list of causes for which a call is refused, each with its number and place.
+#![tactic(auto)]
+
 ghost use Rattle.std.specs.Prelude.{◌≡◌};
 ghost use Rattle.refusals.specs.Numbers.{number_of, place_of};
 

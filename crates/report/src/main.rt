@@ -1,4 +1,6 @@
 // report: tells which states of the record file on standard input fall, and in which round.
+#![tactic(auto)]
+
 use amounts::shares::Share;
 use input::read_all;
 use reports::report::{INPUT_BYTES, TEXT_BYTES, report};

@@ -1,4 +1,6 @@
 // Tests of tables: small tables worked out by hand, refusals, verdicts, held bands, and lines of 256 states.
+#![tactic(auto)]
+
 #[cfg(test)]
 mod held_bands;
 #[cfg(test)]

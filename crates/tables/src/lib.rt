@@ -1,4 +1,6 @@
 // Tables: interval Markov tables over the caller's memory, and the calls on them.
+#![tactic(auto)]
+
 mod arguments;
 pub mod band;
 pub mod load;

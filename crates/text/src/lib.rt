@@ -1,4 +1,6 @@
 // Text: words, decimal numbers and hexadecimal bytes, written into the caller's bytes.
+#![tactic(auto)]
+
 pub mod decimal;
 pub mod hex;
 pub mod piece;

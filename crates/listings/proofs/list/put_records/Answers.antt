@@ -18,27 +18,27 @@ records-init c = record {
   short = omega arith;
 }
 
-pub overflow-add-counts : goal.overflow-add-counts
-overflow-add-counts c = record { fits = index_fits c.records.invariant.read }
+pub overflow_add-counts : goal.overflow_add-counts
+overflow_add-counts c = record { fits = index_fits c.records.invariant.read }
 
 pub returns-in-Err : goal.returns-in-Err
 returns-in-Err c =
-    let put = rw c.into.ensures at c.put-refused.ensures in
+    let put = rw c.into.ensures at c.put_refused.ensures in
     let both = closed_at_fault c.records.invariant c.in-Err.fault c.in-Err.ensures.stands.answer put.short put.writes in
-    record { writes = both.0; short = both.1; holds = holds c.args.records.now (λ i. (c.type-inv.records i).fits) }
+    record { writes = both.0; short = both.1; holds = holds c.args.records.now (λ i. (c.type_inv.records i).fits) }
 
 pub returns-in-default : goal.returns-in-default
 returns-in-default c =
     let here = rw c.in-default.is at c.in-Ok.ensures.stands.answer in
-    let both = closed_at_end c.records.invariant here c.put-counts.ensures in
-    record { writes = both.0; short = both.1; holds = holds c.args.records.now (λ i. (c.type-inv.records i).fits) }
+    let both = closed_at_end c.records.invariant here c.put_counts.ensures in
+    record { writes = both.0; short = both.1; holds = holds c.args.records.now (λ i. (c.type_inv.records i).fits) }
 
-pub returns-in-err-end : goal.returns-in-err-end
-returns-in-err-end c =
+pub returns-in_err-end : goal.returns-in_err-end
+returns-in_err-end c =
     let entry = said c.in-Some.entry in
     let read = rw c.in-Some.is at c.in-Ok.ensures in
     let fits = next_fits c.records.invariant entry read.stands.answer read.stands.tells.told in
-    absurd (not_refused c.records.text c.records.end (line entry) c.put-record.new.text c.in-err-end.field-0.0 c.in-err-end.ensures fits)
+    absurd (not_refused c.records.text c.records.end (line entry) c.put_record.new.text c.in_err-end.field-0.0 c.in_err-end.ensures fits)
 
 pub records-smaller : goal.records-smaller
 records-smaller c =
@@ -50,4 +50,4 @@ pub records-preserved : goal.records-preserved
 records-preserved c =
     let entry = said c.in-Some.entry in
     let read = rw c.in-Some.is at c.in-Ok.ensures in
-    next c.records.invariant entry read.stands.answer read.stands.tells.told c.next.new.self c.put-record.new.text c.in-ok-end.end c.with-counts.result read.input read.cursor c.put-record.auto.text c.in-ok-end.ensures c.with-counts.ensures
+    next c.records.invariant entry read.stands.answer read.stands.tells.told c.next.new.self c.put_record.new.text c.in_ok-end.end c.with-counts.result read.input read.cursor c.put_record.auto.text c.in_ok-end.ensures c.with-counts.ensures

@@ -8,6 +8,6 @@ returns-then-bytes-ne0 c = record { answer = rw (band_wrong c.args.bytes.now c.r
 
 pub returns : goal.returns
 returns c = record {
-  answer = rw (band_right c.args.bytes.now c.requires.band c.if-bytes-ne0.false) (ap Ok c.band-in.ensures.says);
-  in_record = c.band-in.ensures.in_record;
+  answer = rw (band_right c.args.bytes.now c.requires.band c.if-bytes-ne0.false) (ap Ok c.band_in.ensures.says);
+  in_record = c.band_in.ensures.in_record;
 }

@@ -10,24 +10,24 @@ use Rattle.reports.proofs.report.put_lines.Goals as goal
 pub loop-state-init : goal.loop-state-init
 loop-state-init c = (refl, lines_none (left_of c.args.table.now) c.args.text.now)
 
-pub returns-in-err-end : goal.returns-in-err-end
-returns-in-err-end c =
+pub returns-in_err-end : goal.returns-in_err-end
+returns-in_err-end c =
     let same = c.loop-state.invariant.0 in
     let rank = (answered_ok _ _ _ (rw same at (c.in-Ok.ensures.answer (rw same c.requires.sound)))).1 in
     let inside = rw c.requires.verdict.states at c.loop-state-test.true in
     let fits = next_fits c.loop-state.invariant.1 c.requires.sound.proper.orderly.few c.requires.room inside in
-    absurd (not_refused c.loop-state.text c.loop-state.end _ c.put-state.new.text c.in-err-end.field-0.0 (rw rank at c.in-err-end.ensures) fits)
+    absurd (not_refused c.loop-state.text c.loop-state.end _ c.put_state.new.text c.in_err-end.field-0.0 (rw rank at c.in_err-end.ensures) fits)
 
 pub loop-state-preserved : goal.loop-state-preserved
 loop-state-preserved c =
     let same = c.loop-state.invariant.0 in
     let rank = (answered_ok _ _ _ (rw same at (c.in-Ok.ensures.answer (rw same c.requires.sound)))).1 in
     let inside = rw c.requires.verdict.states at c.loop-state-test.true in
-    (c.rank.ensures.same ∙ same, lines_more c.loop-state.invariant.1 c.requires.sound.proper.orderly.few c.requires.room inside c.put-state.new.text c.in-ok-end.end c.put-state.auto.text (rw rank at c.in-ok-end.ensures))
+    (c.rank.ensures.same ∙ same, lines_more c.loop-state.invariant.1 c.requires.sound.proper.orderly.few c.requires.room inside c.put_state.new.text c.in_ok-end.end c.put_state.auto.text (rw rank at c.in_ok-end.ensures))
 
 pub returns : goal.returns
 returns c =
     let all : c.loop-state.state ≡ c.args.table.now.states = omega (arith, c.requires.verdict.states, c.loop-state-test.false, c.loop-state.auto.state-end) in
-    let put = rw (c.requires.verdict.removed, c.requires.verdict.states, c.requires.verdict.rounds) at c.put-removed.ensures in
+    let put = rw (c.requires.verdict.removed, c.requires.verdict.states, c.requires.verdict.rounds) at c.put_removed.ensures in
     let lines = lines_all c.loop-state.invariant.1 c.requires.sound.proper.orderly.few c.requires.room all put in
     record { writes = lines.0; short = lines.1; same = c.loop-state.invariant.0 }

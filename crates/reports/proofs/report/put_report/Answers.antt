@@ -10,8 +10,8 @@ use Rattle.tables.specs.Calls.{left_of}
 use Rattle.reports.proofs.Runs.{in_force, text_of_lines, text_of_stop}
 use Rattle.reports.proofs.report.put_report.Goals as goal
 
-pub put-lines-requires : goal.put-lines-requires
-put-lines-requires c =
+pub put_lines-requires : goal.put_lines-requires
+put_lines-requires c =
     let ran = c.in-Ok.ensures.ran _ _ c.requires.sound c.requires.opened in
     record {
       room = c.requires.room;
@@ -24,10 +24,10 @@ pub returns-in-Ok : goal.returns-in-Ok
 returns-in-Ok c =
     let ran = c.in-Ok.ensures.ran _ _ c.requires.sound c.requires.opened in
     let text = text_of_lines c.args.table.now c.args.records.now ran in
-    let same = c.put-lines.ensures.same in
+    let same = c.put_lines.ensures.same in
     record {
-      writes = subst (λ (ys : List ℕ). Put c.args.text.now 0 ys c.put-lines.new.text c.put-lines.result) text c.put-lines.ensures.writes;
-      short = subst (λ (ys : List ℕ). length ys ≤ 4_096) text c.put-lines.ensures.short;
+      writes = subst (λ (ys : List ℕ). Put c.args.text.now 0 ys c.put_lines.new.text c.put_lines.result) text c.put_lines.ensures.writes;
+      short = subst (λ (ys : List ℕ). length ys ≤ 4_096) text c.put_lines.ensures.short;
       left = ap (λ (t : Table Share). left_of t) same ∙ ran.left;
       sound = rw same ran.sound;
       lent = rw same c.ranked.ensures.lent;
@@ -38,8 +38,8 @@ returns-in-Err c =
     let ran = c.in-Err.ensures.ran _ _ c.requires.sound c.requires.opened in
     let text = text_of_stop c.args.table.now c.args.records.now ran in
     record {
-      writes = subst (λ (ys : List ℕ). Put c.args.text.now 0 ys c.put-refused.new.text c.put-refused.result) text c.put-refused.ensures.writes;
-      short = let fits : _ ≤ 4_096 = omega (arith, c.put-refused.ensures.short) in subst (λ (ys : List ℕ). length ys ≤ 4_096) text fits;
+      writes = subst (λ (ys : List ℕ). Put c.args.text.now 0 ys c.put_refused.new.text c.put_refused.result) text c.put_refused.ensures.writes;
+      short = let fits : _ ≤ 4_096 = omega (arith, c.put_refused.ensures.short) in subst (λ (ys : List ℕ). length ys ≤ 4_096) text fits;
       left = ran.left;
       sound = ran.sound;
       lent = c.ranked.ensures.lent;

@@ -7,11 +7,11 @@ use Rattle.reports.proofs.states.state_count.Goals as goal
 pub records-init : goal.records-init
 records-init c = sofar_none c.args.records.now c.new-reader.result (ap (λ b. b.now) c.new-reader.ensures.input) c.new-reader.ensures.start
 
-pub overflow-add-result : goal.overflow-add-result
-overflow-add-result c = record { fits = omega (arith, c.from.ensures, c.records.invariant.small) }
+pub overflow_add-result : goal.overflow_add-result
+overflow_add-result c = record { fits = omega (arith, c.from.ensures, c.records.invariant.small) }
 
-pub overflow-add-result-in-default : goal.overflow-add-result-in-default
-overflow-add-result-in-default c = record { fits = omega (arith, c.from-in-default.ensures, c.records.invariant.small) }
+pub overflow_add-result-in-default : goal.overflow_add-result-in-default
+overflow_add-result-in-default c = record { fits = omega (arith, c.from-in-default.ensures, c.records.invariant.small) }
 
 pub returns-in-Err : goal.returns-in-Err
 returns-in-Err c = rw c.from.ensures (counted_at_fault c.records.invariant _ c.in-Err.ensures.stands.answer)
@@ -27,4 +27,4 @@ records-smaller c =
 pub records-preserved : goal.records-preserved
 records-preserved c =
     let read = rw c.in-Some.is at c.in-Ok.ensures in
-    sofar_more c.records.invariant (said c.in-Some.entry) read.stands.answer c.next.new.self c.larger-state-largest.result c.larger-state-largest.type-inv read.input read.cursor c.larger-state-largest.ensures
+    sofar_more c.records.invariant (said c.in-Some.entry) read.stands.answer c.next.new.self c.larger_state-largest.result c.larger_state-largest.type_inv read.input read.cursor c.larger_state-largest.ensures

@@ -19,8 +19,8 @@ pub returns-in-Ok-true : goal.returns-in-Ok-true
 returns-in-Ok-true g c = record {
   bound = omega (arith, c.requires);
   placed = λ order.
-      placing.cleared g.K.Amount.kind c.args.band c.args.held c.args.bands.now c.requires order c.in-Ok-true.at c.take-out.new.bands
-      (c.in-Ok-true.ensures.found order) (sym c.in-Ok-true.ensures') (rw c.find.ensures.same at c.take-out.ensures);
+      placing.cleared g.K.Amount.kind c.args.band c.args.held c.args.bands.now c.requires order c.in-Ok-true.at c.take_out.new.bands
+      (c.in-Ok-true.ensures.found order) (sym c.in-Ok-true.ensures') (rw c.find.ensures.same at c.take_out.ensures);
 }
 
 pub returns-in-Ok-false : goal.returns-in-Ok-false
@@ -44,6 +44,6 @@ returns-else-usable-held g c = record {
   bound = omega (arith, c.usable.ensures, ap length c.find.ensures.same);
   placed = λ order.
       let free : c.args.held < min (length c.args.bands.now) 4_096 = omega (arith, c.usable.ensures, c.if-usable-held.false, ap length c.find.ensures.same) in
-      placing.added g.K.Amount.kind c.args.band c.args.held c.args.bands.now c.requires order c.in-Err-false.at c.put-in.new.bands
-      (c.in-Err-false.ensures.found order) (sym c.in-Err-false.ensures') free (rw c.find.ensures.same at c.put-in.ensures);
+      placing.added g.K.Amount.kind c.args.band c.args.held c.args.bands.now c.requires order c.in-Err-false.at c.put_in.new.bands
+      (c.in-Err-false.ensures.found order) (sym c.in-Err-false.ensures') free (rw c.find.ensures.same at c.put_in.ensures);
 }

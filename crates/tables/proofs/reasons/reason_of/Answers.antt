@@ -14,8 +14,8 @@ returns g c = record {
       let held = take c.args.held c.args.bands.now in
       let x = not_before (rank_in c.args.ranks.now) c.args.round in
       let first = c.position-first.result in
-      let place = rw c.pair-of.ensures at (c.position-first.ensures.found orderly.order) in
-      c.reason-in.ensures
+      let place = rw c.pair_of.ensures at (c.position-first.ensures.found orderly.order) in
+      c.reason_in.ensures
       ∙ ap (passed k x c.args.source None k.nothing k.nothing) (take_rest held first)
       ∙ passed_is g.met.K.Amount.laws states (omega (arith, orderly.few)) held x c.args.source first place orderly.order orderly.targets;
 }

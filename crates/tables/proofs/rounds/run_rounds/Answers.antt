@@ -8,21 +8,21 @@ loop-rounds-init g c = (refl, omega arith, λ orderly after. sofar_none _ _ afte
 
 pub returns-then-fallen-eq0 : goal.returns-then-fallen-eq0
 returns-then-fallen-eq0 g c = record {
-  same = c.run-round-fallen.ensures.same ∙ c.loop-rounds.invariant.0;
+  same = c.run_round-fallen.ensures.same ∙ c.loop-rounds.invariant.0;
   ranked = λ orderly after.
       let sofar = c.loop-rounds.invariant.2 orderly after in
-      let round = rw c.loop-rounds.invariant.0 at (c.run-round-fallen.ensures.round (rw c.loop-rounds.invariant.0 orderly) c.loop-rounds.rounds (omega (arith, c.requires.few)) (rw c.loop-rounds.invariant.0 sofar.after)) in
+      let round = rw c.loop-rounds.invariant.0 at (c.run_round-fallen.ensures.round (rw c.loop-rounds.invariant.0 orderly) c.loop-rounds.rounds (omega (arith, c.requires.few)) (rw c.loop-rounds.invariant.0 sofar.after)) in
       sofar_all _ _ sofar (sym round.counted ∙ c.if-fallen-eq0.true) _ (quiet_round _ _ round c.if-fallen-eq0.true);
 }
 
 pub loop-rounds-preserved : goal.loop-rounds-preserved
 loop-rounds-preserved g c = (
-  c.run-round-fallen.ensures.same ∙ c.loop-rounds.invariant.0,
-  omega (arith, c.run-round-fallen.ensures.bound, c.requires.few, c.loop-rounds.invariant.1),
+  c.run_round-fallen.ensures.same ∙ c.loop-rounds.invariant.0,
+  omega (arith, c.run_round-fallen.ensures.bound, c.requires.few, c.loop-rounds.invariant.1),
   λ orderly after.
       let sofar = c.loop-rounds.invariant.2 orderly after in
-      let round = rw c.loop-rounds.invariant.0 at (c.run-round-fallen.ensures.round (rw c.loop-rounds.invariant.0 orderly) c.loop-rounds.rounds (omega (arith, c.requires.few)) (rw c.loop-rounds.invariant.0 sofar.after)) in
-      sofar_more _ _ c.run-round-fallen.new.ranks c.run-round-fallen.result sofar round c.if-fallen-eq0.false,
+      let round = rw c.loop-rounds.invariant.0 at (c.run_round-fallen.ensures.round (rw c.loop-rounds.invariant.0 orderly) c.loop-rounds.rounds (omega (arith, c.requires.few)) (rw c.loop-rounds.invariant.0 sofar.after)) in
+      sofar_more _ _ c.run_round-fallen.new.ranks c.run_round-fallen.result sofar round c.if-fallen-eq0.false,
 )
 
 pub returns : goal.returns

@@ -8,6 +8,6 @@ pub returns : goal.returns
 returns c = record {
   same = refl;
   read = λ t inside room.
-      ap (λ (ranks : List ℕ). rank_in ranks t) c.write-ranks.ensures
+      ap (λ (ranks : List ℕ). rank_in ranks t) c.write_ranks.ensures
       ∙ rank_written c.args.places.now c.args.ranks.now c.min-count.result t (omega (arith, c.min-count.ensures)) (omega (arith, c.min-count.ensures));
 }

@@ -6,8 +6,8 @@ use Rattle.text.proofs.decimal.spell.Goals as goal
 pub digits-init : goal.digits-init
 digits-init c = none_spelled c.args.digits.now c.args.number c.requires (omega arith)
 
-pub overflow-sub-first : goal.overflow-sub-first
-overflow-sub-first c = some_left c.digits.digits c.digits.first c.digits.left c.args.number (omega arith) c.digits.invariant
+pub overflow_sub-first : goal.overflow_sub-first
+overflow_sub-first c = some_left c.digits.digits c.digits.first c.digits.left c.args.number (omega arith) c.digits.invariant
 
 pub returns-then-left-eq0 : goal.returns-then-left-eq0
 returns-then-left-eq0 c = record {

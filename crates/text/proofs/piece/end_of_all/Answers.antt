@@ -6,4 +6,4 @@ use Rattle.text.proofs.piece.end_of_all.Goals as goal
 
 pub returns : goal.returns
 returns c =
-    c.end-of.ensures ∙ capped_end c.args.len c.args.at (length (printed c.args.pieces.now)) c.pieces-len.result c.requires c.pieces-len.ensures
+    c.end_of.ensures ∙ capped_end c.args.len c.args.at (length (printed c.args.pieces.now)) c.pieces_len.result c.requires c.pieces_len.ensures

@@ -5,4 +5,4 @@ use Rattle.text.proofs.word.overwrite.Goals as goal
 
 pub returns : goal.returns
 returns c =
-    rw c.copy-from-slice.ensures.after (overlaid_part c.args.text.now c.args.at c.args.word.now _ (omega arith))
+    rw c.copy_from_slice.ensures.after (overlaid_part c.args.text.now c.args.at c.args.word.now _ (omega arith))

@@ -10,10 +10,10 @@ returns g c = record {
   judged = λ sound some.
       let states : c.min-states.result ≡ c.args.self.now.states = omega (arith, c.min.ensures, c.min-states.ensures, sound.proper.orderly.few, sound.proper.room) in
       let held : c.min-held.result ≡ c.args.self.now.held = omega (arith, c.min-held.ensures, sound.within) in
-      let ranked = rw (states, held) at (c.run-rounds-tally.ensures.ranked (rw (states, held) sound.proper.orderly) (checking.none_yet _ _ 256 (rw states sound.proper.orderly.few))) in
-      checking.all_checked g.met.K.Amount.laws c.args.self.now sound some c.run-rounds-tally.new.ranks c.run-rounds-tally.result ranked
-      c.verdict-of.result c.verdict-of.ensures.states c.verdict-of.ensures.removed c.verdict-of.ensures.rounds (c.verdict-of.ensures.start ∙ c.as-rank.ensures ∙ ap as_rank c.rank-at.ensures)
-      _ c.run-rounds-tally.ensures.same c.write-ranks.auto.places refl refl refl refl
-      (λ u below. ap (λ (ranks : List ℕ). rank_in ranks u) c.write-ranks.ensures ∙ checking.rank_written c.run-rounds-tally.new.ranks _ c.min-states.result u (omega (arith, c.min.ensures, c.min-states.ensures, c.run-rounds-tally.auto.ranks)) (rw states below));
+      let ranked = rw (states, held) at (c.run_rounds-tally.ensures.ranked (rw (states, held) sound.proper.orderly) (checking.none_yet _ _ 256 (rw states sound.proper.orderly.few))) in
+      checking.all_checked g.met.K.Amount.laws c.args.self.now sound some c.run_rounds-tally.new.ranks c.run_rounds-tally.result ranked
+      c.verdict_of.result c.verdict_of.ensures.states c.verdict_of.ensures.removed c.verdict_of.ensures.rounds (c.verdict_of.ensures.start ∙ c.as_rank.ensures ∙ ap as_rank c.rank_at.ensures)
+      _ c.run_rounds-tally.ensures.same c.write_ranks.auto.places refl refl refl refl
+      (λ u below. ap (λ (ranks : List ℕ). rank_in ranks u) c.write_ranks.ensures ∙ checking.rank_written c.run_rounds-tally.new.ranks _ c.min-states.result u (omega (arith, c.min.ensures, c.min-states.ensures, c.run_rounds-tally.auto.ranks)) (rw states below));
   lent = record { bands = refl; ranks = refl };
 }

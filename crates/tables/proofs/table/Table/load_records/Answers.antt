@@ -9,28 +9,28 @@ use Rattle.tables.proofs.table.Table.load_records.Goals as goal
 pub records-init : goal.records-init
 records-init g c = loading_none g.K.Amount.kind g.K.RecordNumber.amount_of c.args.self.now c.args.records.now c.new-reader.result c.none-counts.result (omega arith) (ap (λ b. b.now) c.new-reader.ensures.input) c.new-reader.ensures.start c.none-counts.ensures
 
-pub overflow-add-index : goal.overflow-add-index
-overflow-add-index g c = record { fits = index_fits c.records.invariant.read }
+pub overflow_add-index : goal.overflow_add-index
+overflow_add-index g c = record { fits = index_fits c.records.invariant.read }
 
-pub returns-in-err-entry : goal.returns-in-err-entry
-returns-in-err-entry g c =
-    let fault = indexed_err _ c.next.result c.in-err-entry.field-0.0 (sym c.at-index.ensures ∙ c.in-err-entry.was) in
-    let answer = err_from_is_err_and c.from-residual.result c.from-residual.ensures.1 in
+pub returns-in_err-entry : goal.returns-in_err-entry
+returns-in_err-entry g c =
+    let fault = indexed_err _ c.next.result c.in_err-entry.field-0.0 (sym c.at_index.ensures ∙ c.in_err-entry.was) in
+    let answer = err_from_is_err_and c.from_residual.result c.from_residual.ensures.1 in
     let here = rw fault.0 at c.next.ensures.stands.answer in
     record { loads = λ sound some. rw (answer.1, answer.2, fault.1) (closed_at_fault _ _ _ _ c.records.invariant _ here sound some); lent = c.records.invariant.lent }
 
 pub returns-in-default : goal.returns-in-default
 returns-in-default g c =
-    let read = indexed_ok _ c.next.result c.in-ok-entry.field-0 (sym c.at-index.ensures ∙ c.in-ok-entry.was) in
+    let read = indexed_ok _ c.next.result c.in_ok-entry.field-0 (sym c.at_index.ensures ∙ c.in_ok-entry.was) in
     let here = rw (read, c.in-default.is) at c.next.ensures.stands.answer in
     record { loads = λ sound some. closed_at_end _ _ _ _ c.records.invariant here sound some; lent = c.records.invariant.lent }
 
-pub returns-in-err-at-index : goal.returns-in-err-at-index
-returns-in-err-at-index g c =
-    let read = indexed_ok _ c.next.result c.in-ok-entry.field-0 (sym c.at-index.ensures ∙ c.in-ok-entry.was) in
+pub returns-in_err-at_index : goal.returns-in_err-at_index
+returns-in_err-at_index g c =
+    let read = indexed_ok _ c.next.result c.in_ok-entry.field-0 (sym c.at_index.ensures ∙ c.in_ok-entry.was) in
     let here = rw (read, c.in-Some.is) at c.next.ensures.stands.answer in
-    let refused = indexed_err _ c.accept.result c.in-err-at-index.field-0.0 (sym c.at-index-in-records.ensures ∙ c.in-err-at-index.was) in
-    let answer = err_from_is_err_and c.from-residual-in-err-at-index.result c.from-residual-in-err-at-index.ensures.1 in
+    let refused = indexed_err _ c.accept.result c.in_err-at_index.field-0.0 (sym c.at_index-in-records.ensures ∙ c.in_err-at_index.was) in
+    let answer = err_from_is_err_and c.from_residual-in_err-at_index.result c.from_residual-in_err-at_index.ensures.1 in
     record {
       loads = λ sound some. rw (answer.1, answer.2, refused.1) (closed_at_refusal _ _ _ _ c.records.invariant (said c.in-Some.entry) here c.accept.new.self _ (λ now_sound. rw refused.0 at (c.accept.ensures.accepts now_sound)) sound some);
       lent = record { bands = c.accept.ensures.lent.bands ∙ c.records.invariant.lent.bands; ranks = c.accept.ensures.lent.ranks ∙ c.records.invariant.lent.ranks };
@@ -38,14 +38,14 @@ returns-in-err-at-index g c =
 
 pub records-smaller : goal.records-smaller
 records-smaller g c =
-    let read = indexed_ok _ c.next.result c.in-ok-entry.field-0 (sym c.at-index.ensures ∙ c.in-ok-entry.was) in
+    let read = indexed_ok _ c.next.result c.in_ok-entry.field-0 (sym c.at_index.ensures ∙ c.in_ok-entry.was) in
     let next = rw (read, c.in-Some.is) at c.next.ensures in
     omega (arith, next.cursor, whole_record c.records.invariant.read (said c.in-Some.entry) next.stands.answer next.stands.tells.told)
 
 pub records-preserved : goal.records-preserved
 records-preserved g c =
-    let read = indexed_ok _ c.next.result c.in-ok-entry.field-0 (sym c.at-index.ensures ∙ c.in-ok-entry.was) in
+    let read = indexed_ok _ c.next.result c.in_ok-entry.field-0 (sym c.at_index.ensures ∙ c.in_ok-entry.was) in
     let next = rw (read, c.in-Some.is) at c.next.ensures in
-    let accepted = indexed_ok _ c.accept.result tt (sym c.at-index-in-records.ensures ∙ c.in-ok-at-index.was) in
+    let accepted = indexed_ok _ c.accept.result tt (sym c.at_index-in-records.ensures ∙ c.in_ok-at_index.was) in
     loading_more _ _ _ _ c.records.invariant (said c.in-Some.entry) next.stands.answer next.stands.tells.told c.accept.new.self c.next.new.self c.with-counts.result
     c.accept.ensures.lent (λ now_sound. rw accepted at (c.accept.ensures.accepts now_sound)) next.input next.cursor c.with-counts.ensures
