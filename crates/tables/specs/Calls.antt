@@ -32,7 +32,7 @@ pub record Sound {S : Type 0} (k : Kind S) (t : Table S) : Type 0 where
 
 -- the places are still those that the caller lent to open
 pub record Lent {S : Type 0} (before after : Table S) : Type 0 where
-  pub bands : after.bands.name ≡ before.bands.name
+  pub bands : after.bands.ghost_name ≡ before.bands.ghost_name
   pub ranks : after.ranks.ghost_name ≡ before.ranks.ghost_name
 
 pub record Sized {S : Type 0} (k : Kind S) (before after : Table S) (states start : ℕ) (r : Result (Unit {0}) Refusal) : Type 0 where

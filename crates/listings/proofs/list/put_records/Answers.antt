@@ -27,9 +27,9 @@ returns-in-Err c =
     let both = closed_at_fault c.records.invariant c.in-Err.fault c.in-Err.ensures.stands.answer put.short put.writes in
     record { writes = both.0; short = both.1; holds = holds c.args.records.now (λ i. (c.type_inv.records i).fits) }
 
-pub returns-in-default : goal.returns-in-default
-returns-in-default c =
-    let here = rw c.in-default.is at c.in-Ok.ensures.stands.answer in
+pub returns-in_default : goal.returns-in_default
+returns-in_default c =
+    let here = rw c.in_default.is at c.in-Ok.ensures.stands.answer in
     let both = closed_at_end c.records.invariant here c.put_counts.ensures in
     record { writes = both.0; short = both.1; holds = holds c.args.records.now (λ i. (c.type_inv.records i).fits) }
 

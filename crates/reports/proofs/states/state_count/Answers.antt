@@ -10,14 +10,14 @@ records-init c = sofar_none c.args.records.now c.new-reader.result (ap (λ b. b.
 pub overflow_add-result : goal.overflow_add-result
 overflow_add-result c = record { fits = omega (arith, c.from.ensures, c.records.invariant.small) }
 
-pub overflow_add-result-in-default : goal.overflow_add-result-in-default
-overflow_add-result-in-default c = record { fits = omega (arith, c.from-in-default.ensures, c.records.invariant.small) }
+pub overflow_add-result-in_default : goal.overflow_add-result-in_default
+overflow_add-result-in_default c = record { fits = omega (arith, c.from-in_default.ensures, c.records.invariant.small) }
 
 pub returns-in-Err : goal.returns-in-Err
 returns-in-Err c = rw c.from.ensures (counted_at_fault c.records.invariant _ c.in-Err.ensures.stands.answer)
 
-pub returns-in-default : goal.returns-in-default
-returns-in-default c = rw c.from-in-default.ensures (counted_at_end c.records.invariant (rw c.in-default.is at c.in-Ok.ensures.stands.answer))
+pub returns-in_default : goal.returns-in_default
+returns-in_default c = rw c.from-in_default.ensures (counted_at_end c.records.invariant (rw c.in_default.is at c.in-Ok.ensures.stands.answer))
 
 pub records-smaller : goal.records-smaller
 records-smaller c =

@@ -3,8 +3,8 @@ use Rattle.std.proofs.Common.{◌<◌, min, length, set, sym, ap, ◌∙◌, ari
 use Rattle.tables.proofs.Placing as placing
 use Rattle.tables.proofs.places.place.Goals as goal
 
-pub offset-bounds-bands-at : goal.offset-bounds-bands-at
-offset-bounds-bands-at g c = let h : c.in-Ok-false.at < length c.args.bands.now = omega (arith, c.in-Ok-false.ensures.within, c.requires) in search rules
+pub offset_bounds-bands-at : goal.offset_bounds-bands-at
+offset_bounds-bands-at g c = let h : c.in-Ok-false.at < length c.args.bands.now = omega (arith, c.in-Ok-false.ensures.within, c.requires) in search rules
 
 pub returns-then-usable-held : goal.returns-then-usable-held
 returns-then-usable-held g c = record {

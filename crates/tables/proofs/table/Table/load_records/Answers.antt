@@ -19,10 +19,10 @@ returns-in_err-entry g c =
     let here = rw fault.0 at c.next.ensures.stands.answer in
     record { loads = λ sound some. rw (answer.1, answer.2, fault.1) (closed_at_fault _ _ _ _ c.records.invariant _ here sound some); lent = c.records.invariant.lent }
 
-pub returns-in-default : goal.returns-in-default
-returns-in-default g c =
+pub returns-in_default : goal.returns-in_default
+returns-in_default g c =
     let read = indexed_ok _ c.next.result c.in_ok-entry.field-0 (sym c.at_index.ensures ∙ c.in_ok-entry.was) in
-    let here = rw (read, c.in-default.is) at c.next.ensures.stands.answer in
+    let here = rw (read, c.in_default.is) at c.next.ensures.stands.answer in
     record { loads = λ sound some. closed_at_end _ _ _ _ c.records.invariant here sound some; lent = c.records.invariant.lent }
 
 pub returns-in_err-at_index : goal.returns-in_err-at_index
