@@ -3,6 +3,7 @@ use crate::helpers::*;
 use amounts::shares::Share;
 use refusals::Refusal;
 use std::process::Abort;
+use std::test::Fail;
 use tables::band::Band;
 use tables::table::Table;
 use theory::reason::Reason;

@@ -2,6 +2,7 @@
 use crate::helpers::*;
 use amounts::shares::Share;
 use std::process::Abort;
+use std::test::Fail;
 use tables::table::Table;
 use theory::reason::Reason;
 

@@ -13,8 +13,8 @@ pub returns : goal.returns
 returns c =
     let put = c.in_ok-put_report.ensures in
     -- the places that were lent to open are those that the table has at the end
-    let bands_name = sym (put.lent.bands ∙ ap (λ b. b.name) c.open-table.ensures.bands) in
-    let ranks_name = sym (put.lent.ranks ∙ ap (λ b. b.name) c.open-table.ensures.ranks) in
+    let bands_name = sym (put.lent.bands ∙ ap (λ b. b.ghost_name) c.open-table.ensures.bands) in
+    let ranks_name = sym (put.lent.ranks ∙ ap (λ b. b.ghost_name) c.open-table.ensures.ranks) in
     all_reported c.args.records.now c.args.text.now c.put_report.new.text _ _ c.if-text-lt-TEXT_BYTES.false c.if-records-gt-INPUT_BYTES.false c.open-table.result c.put_report.new.table
     (ap (λ b. b.now) c.open-table.ensures.bands) (ap (λ b. b.now) c.open-table.ensures.ranks)
     c.in_ok-put_report.field-0 put.writes put.short put.sound put.left (search (rules, bands_name)) (search (rules, ranks_name))
