@@ -1,5 +1,5 @@
 -- A listing so far: one turn of the loop, and its two ways out.
-use Rattle.std.proofs.Common.{◌≡◌, ℕ, ◌+◌, ◌*◌, ◌^◌, ◌<◌, ◌≤◌, List, [], ◌∷◌, ◌++◌, length, Some, None, Ok, Err, Option, Result, sym, ap, ◌∙◌, subst, ap₂, arith}
+use Rattle.std.proofs.Common.{◌≡◌, ℕ, ◌+◌, ◌*◌, ◌≤◌, List, [], ◌∷◌, ◌++◌, length, Some, None, Ok, Err, Option, Result, sym, ap, ◌∙◌, subst, ap₂, arith}
 use Rattle.std.proofs.lemmas.List.{flat_map_more, length-append, length_push}
 use Rattle.std.specs.List.{flat_map}
 use Rattle.records.proofs.Seen.{Seen, index, index_fits, at_cursor, seen_all, seen_more, whole_record}

@@ -100,7 +100,7 @@ fn the_longest_listing_fits(rt: HostRuntime) -> Result<(), Fail> {
     assert_eq!(rt; end, 5_120 * 35 + 20);
     assert!(rt; end > 55 && end < text.len());
     let lines = b"band 255 255 4294967295 4294967295\n5120 bands, 0 names\n";
-    assert!(rt; &text[end - 55..end] == lines);
+    assert!(rt; &text[end - 55..end] == lines.as_slice());
     Ok(())
 }
 
@@ -134,6 +134,6 @@ fn a_short_text_is_refused_and_left(rt: HostRuntime) {
 fn a_longer_text_is_left_past_the_listing(rt: HostRuntime) {
     let mut text = [b'#'; TEXT_BYTES + 1];
     assert_eq!(rt; list(&[], &mut text), Ok(17));
-    assert!(rt; &text[0..17] == b"0 bands, 0 names\n");
+    assert!(rt; &text[0..17] == b"0 bands, 0 names\n".as_slice());
     assert!(rt; untouched(&text[17..]));
 }

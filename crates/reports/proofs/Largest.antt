@@ -1,5 +1,5 @@
 -- The largest state number so far: one record more, and the end.
-use Rattle.std.proofs.Common.{◌≡◌, ℕ, ◌+◌, ◌<◌, ◌≤◌, List, [], length, Some, None, Ok, Err, Option, Result, sym, refl, ap, ◌∙◌, arith}
+use Rattle.std.proofs.Common.{◌≡◌, ℕ, ◌+◌, ◌<◌, ◌≤◌, List, [], length, Some, None, Ok, Err, Option, Result, sym, ap, ◌∙◌, arith}
 use Rattle.records.proofs.Contents.{step}
 use Rattle.records.proofs.Encoding.{says_whole}
 use Rattle.records.specs.Contents.{Contents, and_then, contents, contents_from}

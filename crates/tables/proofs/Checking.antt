@@ -1,5 +1,5 @@
 -- What a check leaves: the ranks of all rounds in the rank places, and a verdict on them.
-use Rattle.std.proofs.Common.{◌≡◌, ℕ, ◌<◌, ◌≤◌, min, true, eqb, leb, List, ◌++◌, length, take, drop, replicate, None, Ok, Err, sym, refl, ap, ◌∙◌, subst, arith}
+use Rattle.std.proofs.Common.{◌≡◌, ℕ, ◌<◌, ◌≤◌, min, true, leb, List, ◌++◌, length, take, drop, replicate, None, Ok, Err, sym, refl, ap, ◌∙◌, subst, arith}
 use Rattle.std.proofs.lemmas.List.{get_or_append_left, get_or-replicate, get_or-take, length-take-le}
 use Rattle.std.proofs.lemmas.Bool.{eq-eqb, leb-false, ne_eqb}
 use Rattle.amounts.specs.Kinds.{Kind, Laws}
@@ -7,7 +7,7 @@ use Rattle.refusals.specs.declared.Refusal.TheVariants.{NoStates}
 use Rattle.theory.proofs.Ranks as theory
 use Rattle.theory.specs.Models.{Model}
 use Rattle.theory.specs.Rounds.{rank_within}
-use Rattle.tables.specs.Calls.{left_of, Sound, VerdictOn, CheckAnswer, Checked}
+use Rattle.tables.specs.Calls.{left_of, Sound, VerdictOn, Checked}
 use Rattle.tables.specs.Judging.{RanksAfter, Ranked}
 use Rattle.tables.specs.Left.{Left, Proper, answered, judged, no_states, no_such_state, no_question, question_refusal, model_in, rank_left, as_rank}
 use Rattle.tables.specs.Passes.{rank_in}

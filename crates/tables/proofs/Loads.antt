@@ -1,11 +1,11 @@
 -- A load so far: one record more, and the ways it ends.
-use Rattle.std.proofs.Common.{◌≡◌, ℕ, zero, suc, ◌+◌, ◌-◌, ◌*◌, ◌^◌, ◌<◌, ◌≤◌, true, cond, eqb, List, [], ◌∷◌, ◌++◌, length, Some, None, Ok, Err, Option, Result, sym, refl, ap, ◌∙◌, subst, ap₂, arith}
+use Rattle.std.proofs.Common.{◌≡◌, ℕ, ◌+◌, ◌-◌, ◌^◌, ◌<◌, eqb, List, [], ◌∷◌, ◌++◌, length, Some, None, Ok, Err, Option, Result, sym, refl, ap, ◌∙◌, ap₂, arith}
 use Rattle.std.proofs.lemmas.List.{length_push}
 use Rattle.std.proofs.lemmas.Bool.{cond_both, ne_eqb}
 use Rattle.amounts.specs.Kinds.{Kind}
 use Rattle.records.proofs.Seen.{Seen, at_cursor, index, seen_all, seen_more, seen_none}
 use Rattle.records.specs.Contents.{Contents, contents, contents_from}
-use Rattle.records.specs.Counts.{counts_of, none_yet, with_one}
+use Rattle.records.specs.Counts.{none_yet, with_one}
 use Rattle.records.specs.Encoding.{Says}
 use Rattle.records.specs.Format.{Entry, band, name, record_at}
 use Rattle.records.specs.declared.counts.Counts.{Counts}
@@ -13,7 +13,7 @@ use Rattle.records.specs.declared.fault.RecordFault.{RecordFault}
 use Rattle.records.specs.declared.reader.Reader.{Reader}
 use Rattle.refusals.specs.declared.Refusal.{Refusal}
 use Rattle.tables.specs.Calls.{left_of, Lent, Sound}
-use Rattle.tables.specs.Left.{Left, answered, leaves}
+use Rattle.tables.specs.Left.{Left}
 use Rattle.tables.specs.Loading.{Accepts, Loaded, Loads, and_one, end_answer, entry_left, entry_refusal, load_answer, loaded, load_of, indexed}
 use Rattle.tables.specs.declared.load.LoadFault.{LoadFault}
 use Rattle.tables.specs.declared.load.LoadFault.TheVariants.{Records, Table as OfTable}

@@ -1,5 +1,5 @@
 -- A round, state by state, and all rounds, one by one.
-use Rattle.std.proofs.Common.{◌≡◌, ℕ, suc, ◌+◌, ◌<◌, ◌≤◌, Bool, true, false, cond, ◌&&◌, eqb, ◌⊎◌, List, length, get_or, set, is_some, Option, sym, refl, ◌∙◌, subst, ap₂, inl, inr, ⊎_elim, arith}
+use Rattle.std.proofs.Common.{◌≡◌, ℕ, suc, ◌+◌, ◌<◌, ◌≤◌, Bool, true, false, cond, ◌&&◌, eqb, ◌⊎◌, List, length, set, is_some, sym, refl, ◌∙◌, subst, ap₂, inl, inr, ⊎_elim, arith}
 use Rattle.std.proofs.lemmas.List.{get_or-set_same, get_or-set_other}
 use Rattle.std.proofs.lemmas.Bool.{and_cases, and_parts, cases_eq, cases_lt, eqb-false, eqb-true}
 use Rattle.amounts.specs.Kinds.{Kind}
@@ -8,7 +8,6 @@ use Rattle.theory.proofs.Rounds.{Progress, not_before_lem, progress_bound, progr
 use Rattle.theory.specs.Consistency.{reason_of}
 use Rattle.theory.specs.Models.{Model, count_below}
 use Rattle.theory.specs.Rounds.{everyone, standing, falls_after, rank_within, not_before}
-use Rattle.theory.specs.declared.reason.Reason.{Reason}
 use Rattle.tables.specs.Judging.{RanksAfter, Ranked, Round}
 use Rattle.tables.specs.Passes.{rank_in}
 

@@ -1,5 +1,5 @@
 -- The pass over the held bands of a source gives the reason that the definition asks for over all states.
-use Rattle.std.proofs.Common.{◌≡◌, ℕ, zero, suc, ◌+◌, ◌-◌, ◌*◌, ◌<◌, ◌≤◌, Bool, true, false, cond, not, eqb, List, [], ◌∷◌, length, drop, Some, None, Option, sym, refl, ap, ◌∙◌, subst, ⊎_elim, arith}
+use Rattle.std.proofs.Common.{◌≡◌, ℕ, zero, suc, ◌+◌, ◌-◌, ◌<◌, ◌≤◌, Bool, true, false, cond, not, List, [], ◌∷◌, drop, Some, None, Option, sym, refl, ap, ◌∙◌, subst, ⊎_elim, arith}
 use Rattle.std.proofs.ByRecursion.{All-drop, all_from_every, All-weaker}
 use Rattle.std.proofs.lemmas.List.{get_or-drop, length-drop}
 use Rattle.std.proofs.lemmas.Bool.{and_right, cases_Bool, cases_eq, cond_both, eq-eqb, ne_eqb}
@@ -9,9 +9,8 @@ use Rattle.amounts.specs.Kinds.{Kind, Laws, Same}
 use Rattle.amounts.specs.declared.bounds.Bounds.{Bounds}
 use Rattle.theory.proofs.Below.{lowest_kept}
 use Rattle.theory.proofs.Sameness.{same_refl, same_sym, same_trans, same_total, total_nothing_right, test_from_at_most, test_same_left, test_same_right}
-use Rattle.theory.specs.Consistency.{low_inside, high_inside, total_low, total_high, is_lost, is_crossed, first_reason, reason_of}
+use Rattle.theory.specs.Consistency.{low_inside, high_inside, is_lost, is_crossed, first_reason, reason_of}
 use Rattle.theory.specs.Models.{Model, total_below, lowest_below}
-use Rattle.theory.specs.declared.reason.Reason.{Reason}
 use Rattle.theory.specs.declared.reason.Reason.TheVariants.{Lost}
 use Rattle.tables.specs.Held.{pair_of, key_of, bounds_of, Ascending, Position, band_in, model_of}
 use Rattle.tables.specs.Passes.{crossing, ended, passed}

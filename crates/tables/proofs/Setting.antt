@@ -1,8 +1,6 @@
 -- What a set leaves: a sound table, read as its user expects, or the table as it was.
-use Rattle.std.proofs.Common.{◌≡◌, ℕ, ◌+◌, ◌-◌, ◌<◌, ◌≤◌, min, Bool, true, false, cond, not, ◌&&◌, eqb, leb, List, length, take, is_some, Some, None, Ok, Err, Option, Result, sym, refl, ap, ◌∙◌, subst, ⊎_elim, arith}
-use Rattle.std.proofs.lemmas.List.{length-take-le}
+use Rattle.std.proofs.Common.{◌≡◌, ℕ, ◌+◌, ◌-◌, ◌<◌, ◌≤◌, min, Bool, true, false, cond, not, ◌&&◌, leb, List, length, take, is_some, Some, None, Ok, Err, Result, sym, refl, ap, ◌∙◌, subst, ⊎_elim, arith}
 use Rattle.std.proofs.lemmas.Bool.{cases_Bool, leb-false, false≢true, true≢false}
-use Rattle.std.specs.Option.{option_or}
 use Rattle.amounts.specs.Kinds.{Kind, AtMost}
 use Rattle.refusals.specs.declared.Bound.TheVariants.{Low, High}
 use Rattle.refusals.specs.declared.Refusal.{Refusal}
@@ -10,7 +8,7 @@ use Rattle.refusals.specs.declared.Refusal.TheVariants.{NoFreePlace}
 use Rattle.theory.proofs.Sameness.{at_most_from_test}
 use Rattle.tables.specs.Calls.{left_of, Sound, count_after, Reads, BandSet}
 use Rattle.tables.specs.Held.{key_of, bounds_of, is_held, both_nothing, with_band, lacks_place, Placed}
-use Rattle.tables.specs.Left.{Left, Proper, answered, no_states, no_such_state, no_amount, no_band, no_free_place, set_refusal, banded}
+use Rattle.tables.specs.Left.{Left, Proper, answered, no_states, no_such_state, no_amount, no_band, set_refusal, banded}
 use Rattle.tables.specs.declared.band.Band.{Band}
 use Rattle.tables.specs.declared.table.Table.{Table}
 use Rattle.tables.proofs.Lookups.{pairs_same, reads_own, reads_other}

@@ -1,7 +1,6 @@
 -- Bands moved one place up or down: one turn of each loop, and its end.
-use Rattle.std.proofs.Common.{◌≡◌, ℕ, zero, suc, ◌+◌, ◌-◌, ◌<◌, ◌≤◌, List, [], ◌∷◌, ◌++◌, length, get_or, take, drop, set, sym, refl, ap, ◌∙◌, subst, ap₂, arith}
-use Rattle.std.proofs.lemmas.List.Edits.{length-insert}
-use Rattle.std.proofs.lemmas.List.{append_assoc, take_more_set, take-set, drop_more, drop-set-lt, take-take, take-append-le, length-take-le, drop-take, length-set, get_or-set_other}
+use Rattle.std.proofs.Common.{◌≡◌, ℕ, zero, suc, ◌+◌, ◌-◌, ◌<◌, ◌≤◌, List, [], ◌∷◌, ◌++◌, length, get_or, take, drop, set, sym, ap, ◌∙◌, subst, ap₂, arith}
+use Rattle.std.proofs.lemmas.List.{append_assoc, take_more_set, drop_more, drop-set-lt, take-take, take-append-le, length-take-le, drop-take}
 use Rattle.std.specs.List.{insert, remove}
 
 module _ {X : Type 0} where

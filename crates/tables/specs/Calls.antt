@@ -1,5 +1,5 @@
 -- What each call on a table answers and leaves.
-use Rattle.std.specs.Prelude.{◌≡◌, ℕ, ◌+◌, ◌-◌, ◌<◌, ◌≤◌, min, Bool, true, false, cond, ◌&&◌, eqb, List, length, take, is_some, Some, None, Ok, Err, Option, Result}
+use Rattle.std.specs.Prelude.{◌≡◌, ℕ, ◌+◌, ◌-◌, ◌<◌, ◌≤◌, min, true, cond, List, length, take, is_some, Some, None, Ok, Err, Option, Result}
 use Rattle.amounts.specs.Kinds.{Kind}
 use Rattle.amounts.specs.declared.bounds.Bounds.{Bounds}
 use Rattle.refusals.specs.declared.Refusal.{Refusal}
@@ -7,7 +7,7 @@ use Rattle.refusals.specs.declared.Refusal.TheVariants.{NoStates, Standing}
 use Rattle.theory.specs.Rounds.{Ranks, removed_of, rounds_of}
 use Rattle.theory.specs.declared.reason.Reason.{Reason}
 use Rattle.tables.specs.Held.{key_of, bounds_of, band_in, is_held, both_nothing}
-use Rattle.tables.specs.Left.{Left, Proper, opened, answered, leaves, size_refusal, sized, no_states, set_refusal, banded, judged, question_refusal, model_in, rank_left, as_rank, reason_answer}
+use Rattle.tables.specs.Left.{Left, Proper, answered, leaves, size_refusal, sized, no_states, set_refusal, banded, judged, question_refusal, model_in, rank_left, as_rank, reason_answer}
 use Rattle.tables.specs.Passes.{rank_in}
 use Rattle.tables.specs.declared.band.Band.{Band}
 use Rattle.tables.specs.declared.table.Table.{Table}

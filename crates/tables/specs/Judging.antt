@@ -4,7 +4,7 @@ use Rattle.std.specs.List.{AllByRecursion as All}
 use Rattle.amounts.specs.Kinds.{Kind}
 use Rattle.theory.specs.Models.{Model, count_below}
 use Rattle.theory.specs.Rounds.{everyone, falls_after, rank_within, rank_of, removed_of, rounds_of}
-use Rattle.tables.specs.Held.{Ascending, model_of}
+use Rattle.tables.specs.Held.{Ascending}
 use Rattle.tables.specs.Passes.{rank_in}
 use Rattle.tables.specs.declared.band.Band.{Band}
 use Rattle.tables.specs.declared.rounds.Tally.{Tally}

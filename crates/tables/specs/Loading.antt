@@ -1,5 +1,5 @@
 -- What a load of records leaves, and where it stops.
-use Rattle.std.specs.Prelude.{◌≡◌, ℕ, ◌+◌, Bool, cond, List, [], ◌∷◌, length, is_some, Some, None, Ok, Err, Option, Result, ◌==◌}
+use Rattle.std.specs.Prelude.{◌≡◌, ℕ, ◌+◌, cond, List, [], ◌∷◌, length, is_some, Some, None, Ok, Err, Option, Result, ◌==◌}
 use Rattle.std.specs.Option.{option_or, unwrap_or}
 use Rattle.amounts.specs.Kinds.{Kind}
 use Rattle.records.specs.Contents.{Contents, contents}

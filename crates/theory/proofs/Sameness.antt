@@ -1,5 +1,5 @@
 -- The same amount, up to which the laws hold: totals and tests respect it.
-use Rattle.std.proofs.Common.{◌≡◌, ℕ, Bool, true, false, T, sym, refl, subst}
+use Rattle.std.proofs.Common.{◌≡◌, Bool, true, false, T, sym, refl, subst}
 use Rattle.amounts.specs.Kinds.{Kind, Laws, AtMost, Same}
 
 module _ {S : Type 0} {k : Kind S} where

@@ -1,5 +1,5 @@
 -- Rounds: which states fall, and in which round.
-use Rattle.std.specs.Prelude.{◌≡◌, ℕ, zero, suc, ◌<◌, ◌≤◌, Bool, true, cond, not, ◌&&◌, ◌||◌, ◌⊎◌, is_some, ◌==◌, nat_le}
+use Rattle.std.specs.Prelude.{◌≡◌, ℕ, zero, suc, ◌<◌, Bool, true, cond, not, ◌&&◌, ◌||◌, ◌⊎◌, is_some, ◌==◌, nat_le}
 use Rattle.amounts.specs.Kinds.{Kind}
 use Rattle.theory.specs.Consistency.{Consistent, reason_of}
 use Rattle.theory.specs.Models.{Model, count_below, highest_below}

@@ -3,7 +3,6 @@ use Rattle.std.proofs.Common.{◌≡◌, refl, ◌∙◌, arith}
 use Rattle.tables.proofs.Refusing.{answered_ok}
 use Rattle.tables.specs.Calls.{left_of}
 use Rattle.text.proofs.Writes.{not_refused}
-use Rattle.reports.specs.Reporting.{state_line}
 use Rattle.reports.proofs.StateLines.{lines_none, lines_more, lines_all, next_fits}
 use Rattle.reports.proofs.report.put_lines.Goals as goal
 

@@ -1,8 +1,6 @@
 -- `put_report`: the lines of a table that was checked, or the line of what stopped it.
-use Rattle.std.proofs.Common.{◌≡◌, ℕ, ◌≤◌, List, length, ap, ◌∙◌, subst, arith}
-use Rattle.amounts.specs.Shares.{shares}
+use Rattle.std.proofs.Common.{ℕ, ◌≤◌, List, length, ap, ◌∙◌, subst, arith}
 use Rattle.amounts.specs.declared.shares.Share.{Share}
-use Rattle.tables.specs.Calls.{Sound}
 use Rattle.tables.specs.Left.{Left}
 use Rattle.tables.specs.declared.table.Table.{Table}
 use Rattle.text.specs.Puts.{Put}

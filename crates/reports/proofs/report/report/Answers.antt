@@ -1,5 +1,5 @@
 -- `report`: what is written, and what the places hold.
-use Rattle.std.proofs.Common.{◌≡◌, sym, ap, ◌∙◌, arith, rules}
+use Rattle.std.proofs.Common.{sym, ap, ◌∙◌, arith, rules}
 use Rattle.text.proofs.Writes.{not_refused}
 use Rattle.reports.proofs.Reports.{all_reported}
 use Rattle.reports.proofs.report.report.Goals as goal

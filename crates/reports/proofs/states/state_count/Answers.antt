@@ -1,5 +1,5 @@
 -- `state_count`: a record, the end and a fault each lead on as the count has it.
-use Rattle.std.proofs.Common.{ℕ, ◌+◌, ap, ◌∙◌, arith}
+use Rattle.std.proofs.Common.{ap, arith}
 use Rattle.records.specs.Reading.{said}
 use Rattle.reports.proofs.Largest.{sofar_none, sofar_more, counted_at_end, counted_at_fault, whole_record}
 use Rattle.reports.proofs.states.state_count.Goals as goal

@@ -1,5 +1,5 @@
 -- `place`: each of the five ways.
-use Rattle.std.proofs.Common.{◌<◌, min, length, set, sym, ap, ◌∙◌, arith, rules}
+use Rattle.std.proofs.Common.{◌<◌, min, length, set, sym, ap, arith, rules}
 use Rattle.tables.proofs.Placing as placing
 use Rattle.tables.proofs.places.place.Goals as goal
 

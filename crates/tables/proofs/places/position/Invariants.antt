@@ -1,7 +1,5 @@
 -- `position`: the pair stands from low to high.
-use Rattle.std.proofs.Common.{ℕ, ◌-◌, ◌<◌, ◌≤◌, length, get_or}
-use Rattle.tables.specs.Held.{Ascending, key_of}
-use Rattle.tables.specs.declared.band.Band.{Band}
+use Rattle.std.proofs.Common.{◌-◌}
 use Rattle.tables.proofs.Searches.{Between}
 use Rattle.tables.proofs.places.position.Given as goal
 

@@ -1,5 +1,5 @@
 -- `put_in`: with the carried band put in at i, the places are as they are to be.
-use Rattle.std.proofs.Common.{◌≡◌, length}
+use Rattle.std.proofs.Common.{◌≡◌}
 use Rattle.std.specs.List.{insert}
 use Rattle.tables.proofs.places.put_in.Given as goal
 

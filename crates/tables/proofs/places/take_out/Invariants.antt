@@ -1,5 +1,5 @@
 -- `take_out`: with the band at i taken out, the places are as they are to be.
-use Rattle.std.proofs.Common.{◌≡◌, length}
+use Rattle.std.proofs.Common.{◌≡◌}
 use Rattle.std.specs.List.{remove}
 use Rattle.tables.proofs.places.take_out.Given as goal
 

@@ -1,6 +1,6 @@
 -- `reason_in`: one band more, a lost target, and the end of the pass.
-use Rattle.std.proofs.Common.{◌≡◌, ◌+◌, ◌∷◌, drop, sym, ap, ◌∙◌}
-use Rattle.tables.specs.Passes.{rank_in, passed}
+use Rattle.std.proofs.Common.{◌+◌, drop, sym, ◌∙◌}
+use Rattle.tables.specs.Passes.{rank_in}
 use Rattle.theory.specs.Rounds.{not_before}
 use Rattle.tables.proofs.Turns as turns
 use Rattle.tables.proofs.reasons.reason_in.Goals as goal

@@ -1,5 +1,5 @@
 -- `reason_of`: the part that begins at the place of the source.
-use Rattle.std.proofs.Common.{◌≡◌, ℕ, ◌+◌, ◌-◌, ◌≤◌, List, take, drop, None, sym, refl, ap, ◌∙◌, subst, arith}
+use Rattle.std.proofs.Common.{take, None, refl, ap, ◌∙◌, arith}
 use Rattle.std.proofs.lemmas.List.{take_rest}
 use Rattle.tables.specs.Passes.{rank_in, passed}
 use Rattle.theory.specs.Rounds.{not_before}

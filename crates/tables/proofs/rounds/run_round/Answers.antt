@@ -1,5 +1,5 @@
 -- `run_round`: a state falls or stays, and all are judged.
-use Rattle.std.proofs.Common.{◌≡◌, sym, refl, ap, ◌∙◌, arith}
+use Rattle.std.proofs.Common.{refl, ◌∙◌, arith}
 use Rattle.tables.proofs.Rounding.{midway_none, midway_all, fallen_more, fallen_same}
 use Rattle.tables.proofs.rounds.run_round.Goals as goal
 use Rattle.tables.proofs.rounds.run_round.Goals.{then-falls, else-falls}

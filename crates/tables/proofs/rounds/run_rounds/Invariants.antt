@@ -1,5 +1,5 @@
 -- `run_rounds`: the ranks are those of the rounds so far.
-use Rattle.std.proofs.Common.{◌≡◌, ℕ, ◌*◌, ◌≤◌, take}
+use Rattle.std.proofs.Common.{◌≡◌, ◌*◌, ◌≤◌, take}
 use Rattle.tables.specs.Held.{model_of}
 use Rattle.tables.specs.Judging.{Orderly, RanksAfter}
 use Rattle.tables.proofs.Rounding.{Sofar}

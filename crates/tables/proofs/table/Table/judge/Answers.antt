@@ -1,5 +1,5 @@
 -- `judge`: the rounds are run over a sound table, and their ranks are written.
-use Rattle.std.proofs.Common.{◌≡◌, ℕ, List, length, sym, refl, ap, ◌∙◌, arith}
+use Rattle.std.proofs.Common.{◌≡◌, ℕ, List, refl, ap, ◌∙◌, arith}
 use Rattle.tables.specs.Passes.{rank_in}
 use Rattle.tables.specs.Left.{as_rank}
 use Rattle.tables.proofs.Checking as checking

@@ -1,5 +1,5 @@
 -- `load_records`: a record, its refusal, the end and a fault each lead on as the load has it.
-use Rattle.std.proofs.Common.{◌≡◌, sym, refl, ap, ◌∙◌, arith}
+use Rattle.std.proofs.Common.{sym, ap, ◌∙◌, arith}
 use Rattle.records.proofs.Seen.{index_fits, whole_record}
 use Rattle.records.specs.Reading.{said}
 use Rattle.std.proofs.lemmas.Result.{err_from_is_err_and}

@@ -1,5 +1,4 @@
 -- `reason`: a question that is not refused is answered by why the state fell.
-use Rattle.std.proofs.Common.{ap, ◌∙◌}
 use Rattle.tables.proofs.Checking.{in_states, in_force}
 use Rattle.tables.proofs.Reasoning.{reason_answer_lem}
 use Rattle.tables.proofs.Refusing.{answered_ok}
