@@ -3,7 +3,7 @@ use Rattle.std.proofs.Common.{◌≡◌, ℕ, ◌<◌, ◌≤◌, Bool, true, fa
 use Rattle.std.proofs.ByRecursion.{All-append, all_from_every, All-weaker}
 use Rattle.std.proofs.lemmas.List.{get_or-take, length-take-le, take-append-drop}
 use Rattle.std.proofs.lemmas.Bool.{both_ways, cases_Bool, cases_lt, cond_both, eq-eqb, lt-ltb, ne_eqb}
-use Rattle.std.specs.List.{AllByRecursion as All}
+use Rattle.std.specs.List.{AllByRecursion}
 use Rattle.amounts.specs.Kinds.{Kind}
 use Rattle.tables.specs.Held.{pair_of, key_of, bounds_of, band_in, before, after, both_nothing, held_for, with_band, Position}
 use Rattle.tables.specs.declared.band.Band.{Band}
@@ -18,18 +18,18 @@ abbrev Other : {S : Type 0} → ℕ → Band S → Type 0
 Other pair c = key_of c ≡ pair → ⊥
 
 module _ {S : Type 0} (k : Kind S) (s t : ℕ) where
-  reads_none : (others : List (Band S)) → All (Other (pair_of s t)) others → band_in k others s t ≡ record { low = k.nothing; high = k.nothing }
+  reads_none : (others : List (Band S)) → AllByRecursion (Other (pair_of s t)) others → band_in k others s t ≡ record { low = k.nothing; high = k.nothing }
   unfolding band_in
   reads_none [] apart = refl
   reads_none (c ∷ cs) apart = rw (ne_eqb (key_of c) (pair_of s t) apart.0) (reads_none cs apart.1)
 
   -- bands of other pairs before and after do not tell
-  past_others : (others held : List (Band S)) → All (Other (pair_of s t)) others → band_in k (others ++ held) s t ≡ band_in k held s t
+  past_others : (others held : List (Band S)) → AllByRecursion (Other (pair_of s t)) others → band_in k (others ++ held) s t ≡ band_in k held s t
   unfolding band_in
   past_others [] held apart = refl
   past_others (c ∷ cs) held apart = rw (ne_eqb (key_of c) (pair_of s t) apart.0) (past_others cs held apart.1)
 
-  before_others : (held others : List (Band S)) → All (Other (pair_of s t)) others → band_in k (held ++ others) s t ≡ band_in k held s t
+  before_others : (held others : List (Band S)) → AllByRecursion (Other (pair_of s t)) others → band_in k (held ++ others) s t ≡ band_in k held s t
   unfolding band_in
   before_others [] others apart = reads_none others apart
   before_others (c ∷ cs) others apart = ap (cond (eqb (key_of c) (pair_of s t)) (bounds_of c)) (before_others cs others apart)
@@ -46,7 +46,7 @@ module _ {S : Type 0} (k : Kind S) (s t : ℕ) where
       rw (left, other) (reads_kept test passes cs))
       (cases_Bool (test c))
 
-  pub reads_past : (held : List (Band S)) → All (λ c. pair_of s t < key_of c) held → band_in k held s t ≡ record { low = k.nothing; high = k.nothing }
+  pub reads_past : (held : List (Band S)) → AllByRecursion (λ c. pair_of s t < key_of c) held → band_in k held s t ≡ record { low = k.nothing; high = k.nothing }
   reads_past held past = reads_none held (All-weaker (λ c. pair_of s t < key_of c) (Other (pair_of s t)) (λ c less same. omega arith) held past)
 
   -- the bands from the place of the source on tell all of it
@@ -54,7 +54,7 @@ module _ {S : Type 0} (k : Kind S) (s t : ℕ) where
   reads_part {p} {held} place =
       ap (λ (cs : List (Band S)). band_in k cs s t) (sym (take-append-drop p held)) ∙ past_others (take p held) (drop p held) lower
     where
-      lower : All (Other (pair_of s t)) (take p held)
+      lower : AllByRecursion (Other (pair_of s t)) (take p held)
       lower = all_from_every (Other (pair_of s t)) (take p held) (λ i d from less.
           let within : i < p = omega (arith, length-take-le p held place.within) in
           rw (get_or-take p held i d within) (λ same. omega (arith, place.below i d within)))
@@ -90,5 +90,5 @@ module _ {S : Type 0} (k : Kind S) (b : Band S) (held : List (Band S)) where
       ∙ reads_kept k s t (λ c. ltb (key_of b) (key_of c)) (λ c same. lt-ltb (key_of b) (key_of c) (omega arith)) held)
       (cases_lt (pair_of s t) (key_of b))
     where
-      own : All (Other (pair_of s t)) (held_for k b)
-      own = cond_both (both_nothing k (bounds_of b)) [] (b ∷ []) (All (Other (pair_of s t))) (λ _. tt) (λ _. (λ same. apart (sym same), tt))
+      own : AllByRecursion (Other (pair_of s t)) (held_for k b)
+      own = cond_both (both_nothing k (bounds_of b)) [] (b ∷ []) (AllByRecursion (Other (pair_of s t))) (λ _. tt) (λ _. (λ same. apart (sym same), tt))

@@ -3,7 +3,7 @@ use Rattle.std.proofs.Common.{◌≡◌, ℕ, zero, suc, ◌+◌, ◌<◌, ◌�
 use Rattle.std.proofs.ByRecursion.{All-append, all_from_every, All-get_or, all_kept_by, All-weaker, kept_by_passes}
 use Rattle.std.proofs.lemmas.List.{get_or_default, length-append, length-drop, length-take-le, take-append-drop}
 use Rattle.std.proofs.lemmas.Bool.{both_ways, cases_Bool, cases_eq, cases_lt, cond_both, cond-false, cond-true, eq-eqb, le-ltb, lt-ltb, ltb-true, ne_eqb}
-use Rattle.std.specs.List.{AllWithin, AllByRecursion as All}
+use Rattle.std.specs.List.{AllWithin, AllByRecursion}
 use Rattle.amounts.specs.Kinds.{Kind}
 use Rattle.tables.specs.Held.{key_of, bounds_of, Ascending, is_held, before, after, both_nothing, held_for, with_band, Position}
 use Rattle.tables.specs.declared.band.Band.{Band}
@@ -41,7 +41,7 @@ module _ {S : Type 0} where
   ascending_drop (suc n) (b ∷ bs) order = ascending_drop n bs order.1
 
   -- none of the bands is of the pair
-  held_none : (pair : ℕ) (held : List (Band S)) → All (λ c. key_of c ≡ pair → ⊥) held → is_held held pair ≡ false
+  held_none : (pair : ℕ) (held : List (Band S)) → AllByRecursion (λ c. key_of c ≡ pair → ⊥) held → is_held held pair ≡ false
   unfolding is_held
   held_none pair [] others = refl
   held_none pair (b ∷ bs) others = rw (ne_eqb (key_of b) pair others.0) (held_none pair bs others.1)
@@ -158,7 +158,7 @@ module _ {S : Type 0} where
       omega (arith, lower, upper, here.0)
 
   -- bands whose pairs come before a pair, and then bands whose pairs do not
-  ascending_append : (pair : ℕ) (lower upper : List (Band S)) → Ascending lower → All (λ c. key_of c < pair) lower → Ascending upper → All (λ c. pair ≤ key_of c) upper → Ascending (lower ++ upper)
+  ascending_append : (pair : ℕ) (lower upper : List (Band S)) → Ascending lower → AllByRecursion (λ c. key_of c < pair) lower → Ascending upper → AllByRecursion (λ c. pair ≤ key_of c) upper → Ascending (lower ++ upper)
   ascending_append pair [] upper order below order' above = order'
   ascending_append pair (b ∷ bs) upper order below order' above =
       let past = All-weaker (λ c. pair ≤ key_of c) (λ c. key_of b < key_of c) (λ c from. omega (arith, below.0)) upper above in
@@ -171,12 +171,12 @@ module _ {S : Type 0} where
       (λ passes. (all_kept_by test (λ c. key_of b < key_of c) bs order.0, ascending_kept test bs order.1))
       (λ fails. ascending_kept test bs order.1)
 
-  pub all_before : (pair : ℕ) (held : List (Band S)) → All (λ c. key_of c < pair) (before pair held)
+  pub all_before : (pair : ℕ) (held : List (Band S)) → AllByRecursion (λ c. key_of c < pair) (before pair held)
   all_before pair held =
       let test : Band S → Bool = λ c. ltb (key_of c) pair in
       All-weaker (λ c. test c ≡ true) (λ c. key_of c < pair) (λ c. ltb-true (key_of c) pair) (before pair held) (kept_by_passes test held)
 
-  pub all_after : (pair : ℕ) (held : List (Band S)) → All (λ c. pair < key_of c) (after pair held)
+  pub all_after : (pair : ℕ) (held : List (Band S)) → AllByRecursion (λ c. pair < key_of c) (after pair held)
   all_after pair held =
       let test : Band S → Bool = λ c. ltb pair (key_of c) in
       All-weaker (λ c. test c ≡ true) (λ c. pair < key_of c) (λ c. ltb-true pair (key_of c)) (after pair held) (kept_by_passes test held)
@@ -189,20 +189,20 @@ module _ {S : Type 0} where
         upper : List (Band S)
         upper = after (key_of b) held
 
-        past : All (λ c. key_of b < key_of c) upper
+        past : AllByRecursion (λ c. key_of b < key_of c) upper
         past = all_after (key_of b) held
 
-        rest : Ascending (held_for k b ++ upper) × All (λ c. key_of b ≤ key_of c) (held_for k b ++ upper)
+        rest : Ascending (held_for k b ++ upper) × AllByRecursion (λ c. key_of b ≤ key_of c) (held_for k b ++ upper)
         rest =
             let ascending = ascending_kept (λ c. ltb (key_of b) (key_of c)) held order in
             let above = All-weaker (λ c. key_of b < key_of c) (λ c. key_of b ≤ key_of c) (λ c less. omega arith) upper past in
-            cond_both (both_nothing k (bounds_of b)) [] (b ∷ []) (λ own. Ascending (own ++ upper) × All (λ c. key_of b ≤ key_of c) (own ++ upper))
+            cond_both (both_nothing k (bounds_of b)) [] (b ∷ []) (λ own. Ascending (own ++ upper) × AllByRecursion (λ c. key_of b ≤ key_of c) (own ++ upper))
             (λ _. (ascending, above)) (λ _. ((past, ascending), (omega arith, above)))
 
-    pub all_with : (P : Band S → Type 0) → All P held → (both_nothing k (bounds_of b) ≡ false → P b) → All P (with_band k b held)
+    pub all_with : (P : Band S → Type 0) → AllByRecursion P held → (both_nothing k (bounds_of b) ≡ false → P b) → AllByRecursion P (with_band k b held)
     all_with P all own =
         All-append P (before (key_of b) held) (held_for k b ++ after (key_of b) held) (all_kept_by (λ c. ltb (key_of c) (key_of b)) P held all)
-        (All-append P (held_for k b) (after (key_of b) held) (cond_both (both_nothing k (bounds_of b)) [] (b ∷ []) (All P) (λ _. tt) (λ some. (own some, tt)))
+        (All-append P (held_for k b) (after (key_of b) held) (cond_both (both_nothing k (bounds_of b)) [] (b ∷ []) (AllByRecursion P) (λ _. tt) (λ some. (own some, tt)))
         (all_kept_by (λ c. ltb (key_of b) (key_of c)) P held all))
 
     length_with : length (with_band k b held) ≡ length (before (key_of b) held) + (length (held_for k b) + length (after (key_of b) held))

@@ -4,7 +4,7 @@ use Rattle.std.proofs.ByRecursion.{All-drop, all_from_every, All-weaker}
 use Rattle.std.proofs.lemmas.List.{get_or-drop, length-drop}
 use Rattle.std.proofs.lemmas.Bool.{and_right, cases_Bool, cases_eq, cond_both, eq-eqb, ne_eqb}
 use Rattle.std.specs.Option.{option_or}
-use Rattle.std.specs.List.{AllByRecursion as All}
+use Rattle.std.specs.List.{AllByRecursion}
 use Rattle.amounts.specs.Kinds.{Kind, Laws, Same}
 use Rattle.amounts.specs.declared.bounds.Bounds.{Bounds}
 use Rattle.theory.proofs.Below.{lowest_kept}
@@ -99,18 +99,18 @@ module _ {S : Type 0} {k : Kind S} (laws : Laws k) (m : Model S) (x : ℕ → Bo
   -- from state v on, the model is what these bands tell
   record Tell (v : ℕ) (bands : List (Band S)) : Type 0 where
     pub order : Ascending bands
-    pub from : All (λ b. pair_of s v ≤ key_of b) bands
-    pub targets : All (λ b. b.target < m.states) bands
+    pub from : AllByRecursion (λ b. pair_of s v ≤ key_of b) bands
+    pub targets : AllByRecursion (λ b. b.target < m.states) bands
     pub reads : (u : ℕ) → v ≤ u → u < m.states → m.band s u ≡ band_in k bands s u
 
   module _ (few : m.states ≤ 65_536) where
     -- the bands have none of s up to its target w
-    unheld_below : (v w : ℕ) (bands : List (Band S)) → Tell v bands → w ≤ m.states → All (λ b. pair_of s w ≤ key_of b) bands → (u : ℕ) → v ≤ u → u < w → m.band s u ≡ unheld
+    unheld_below : (v w : ℕ) (bands : List (Band S)) → Tell v bands → w ≤ m.states → AllByRecursion (λ b. pair_of s w ≤ key_of b) bands → (u : ℕ) → v ≤ u → u < w → m.band s u ≡ unheld
     unheld_below v w bands tell within past u from below =
         tell.reads u from (omega arith) ∙ reads_past k s u bands (All-weaker (λ b. pair_of s w ≤ key_of b) (λ b. pair_of s u < key_of b) (λ b h. omega arith) bands past)
 
     -- no band of s is left
-    none_left : (v : ℕ) (bands : List (Band S)) {crossed : Option ℕ} {low high : S} → v ≤ m.states → Tell v bands → All (λ b. pair_of s m.states ≤ key_of b) bands → Seen v crossed low high → ended k crossed low high ≡ reason_of k m x s
+    none_left : (v : ℕ) (bands : List (Band S)) {crossed : Option ℕ} {low high : S} → v ≤ m.states → Tell v bands → AllByRecursion (λ b. pair_of s m.states ≤ key_of b) bands → Seen v crossed low high → ended k crossed low high ≡ reason_of k m x s
     none_left v bands within tell past seen = seen_all (skip (m.states - v) v m.states (omega arith) (unheld_below v m.states bands tell (omega arith) past) seen)
 
     module _ (v : ℕ) (b : Band S) (bs : List (Band S)) (tell : Tell v (b ∷ bs)) (own : b.source ≡ s) where
@@ -134,7 +134,7 @@ module _ {S : Type 0} {k : Kind S} (laws : Laws k) (m : Model S) (x : ℕ → Bo
       reached : {crossed : Option ℕ} {low high : S} → Seen v crossed low high → Seen b.target crossed low high
       reached seen =
           let from : v ≤ b.target = omega (arith, own, tell.from.0) in
-          let past : All (λ c. pair_of s b.target ≤ key_of c) (b ∷ bs) = (omega (arith, own), All-weaker (λ c. key_of b < key_of c) (λ c. pair_of s b.target ≤ key_of c) (λ c less. omega (arith, own)) bs tell.order.0) in
+          let past : AllByRecursion (λ c. pair_of s b.target ≤ key_of c) (b ∷ bs) = (omega (arith, own), All-weaker (λ c. key_of b < key_of c) (λ c. pair_of s b.target ≤ key_of c) (λ c less. omega (arith, own)) bs tell.order.0) in
           skip (b.target - v) v b.target (omega arith) (unheld_below v b.target (b ∷ bs) tell (omega (arith, tell.targets.0)) past) seen
 
       own_band : {crossed : Option ℕ} {low high : S} → Seen v crossed low high → ((c : Option ℕ) (l h : S) → Seen (suc b.target) c l h → passed k x s c l h bs ≡ reason_of k m x s) → passed k x s crossed low high (b ∷ bs) ≡ reason_of k m x s
@@ -155,7 +155,7 @@ module _ {S : Type 0} {k : Kind S} (laws : Laws k) (m : Model S) (x : ℕ → Bo
     other_band : (v : ℕ) (b : Band S) (bs : List (Band S)) {crossed : Option ℕ} {low high : S} → v ≤ m.states → Tell v (b ∷ bs) → (b.source ≡ s → ⊥) → Seen v crossed low high → passed k x s crossed low high (b ∷ bs) ≡ reason_of k m x s
     other_band v b bs {crossed} {low} {high} within tell other seen =
         let above : pair_of s m.states ≤ key_of b = omega (arith, tell.from.0, tell.targets.0) in
-        let past : All (λ c. pair_of s m.states ≤ key_of c) (b ∷ bs) = (above, All-weaker (λ c. key_of b < key_of c) (λ c. pair_of s m.states ≤ key_of c) (λ c less. omega arith) bs tell.order.0) in
+        let past : AllByRecursion (λ c. pair_of s m.states ≤ key_of c) (b ∷ bs) = (above, All-weaker (λ c. key_of b < key_of c) (λ c. pair_of s m.states ≤ key_of c) (λ c less. omega arith) bs tell.order.0) in
         turns.other_source k x s crossed low high b bs other ∙ none_left v (b ∷ bs) within tell past seen
 
     passed_from : (bands : List (Band S)) (v : ℕ) {crossed : Option ℕ} {low high : S} → v ≤ m.states → Tell v bands → Seen v crossed low high → passed k x s crossed low high bands ≡ reason_of k m x s
@@ -169,7 +169,7 @@ module _ {S : Type 0} {k : Kind S} (laws : Laws k) (m : Model S) (x : ℕ → Bo
 
 module _ {S : Type 0} {k : Kind S} (laws : Laws k) (states : ℕ) (few : states ≤ 65_536) (held : List (Band S)) (x : ℕ → Bool) (s : ℕ) where
   -- the pass begins at the place of the source among the held bands
-  pub passed_is : (p : ℕ) → Position (pair_of s 0) held p → Ascending held → All (λ b. b.target < states) held → passed k x s None k.nothing k.nothing (drop p held) ≡ reason_of k (model_of k states held) x s
+  pub passed_is : (p : ℕ) → Position (pair_of s 0) held p → Ascending held → AllByRecursion (λ b. b.target < states) held → passed k x s None k.nothing k.nothing (drop p held) ≡ reason_of k (model_of k states held) x s
   passed_is p place order targets =
       passed_from laws (model_of k states held) x s few (drop p held) 0 (omega arith) tell (seen_none laws (model_of k states held) x s)
     where

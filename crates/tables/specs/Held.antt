@@ -1,6 +1,6 @@
 -- The bands that a table holds, in ascending order of source, then target.
 use Rattle.std.specs.Prelude.{◌≡◌, ℕ, ◌+◌, ◌*◌, ◌<◌, ◌≤◌, min, Bool, true, false, cond, not, ◌&&◌, List, [], ◌∷◌, ◌++◌, length, take, Ok, Err, filter, Result, ◌==◌, ◌≢◌, nat_le, nat_lt, slice_index_or}
-use Rattle.std.specs.List.{AllByRecursion as All}
+use Rattle.std.specs.List.{AllByRecursion}
 use Rattle.amounts.specs.Kinds.{Kind}
 use Rattle.amounts.specs.declared.bounds.Bounds.{Bounds}
 use Rattle.refusals.specs.declared.Refusal.{Refusal}
@@ -21,7 +21,7 @@ bounds_of b = record { low = b.low; high = b.high }
 -- each band's pair comes before the pairs of all later ones
 abbrev pub Ascending : {S : Type 0} → List (Band S) → Type 0
 Ascending [] = Unit {0}
-Ascending (b ∷ bs) = All (λ c. key_of b < key_of c) bs × Ascending bs
+Ascending (b ∷ bs) = AllByRecursion (λ c. key_of b < key_of c) bs × Ascending bs
 
 -- a pair stands, or would stand, at p
 pub record Position {S : Type 0} (pair : ℕ) (held : List (Band S)) (p : ℕ) : Type 0 where

@@ -1,6 +1,6 @@
 -- What a round makes of the ranks, over the bands that a table holds.
 use Rattle.std.specs.Prelude.{◌≡◌, ℕ, suc, ◌<◌, ◌≤◌, List}
-use Rattle.std.specs.List.{AllByRecursion as All}
+use Rattle.std.specs.List.{AllByRecursion}
 use Rattle.amounts.specs.Kinds.{Kind}
 use Rattle.theory.specs.Models.{Model, count_below}
 use Rattle.theory.specs.Rounds.{everyone, falls_after, rank_within, rank_of, removed_of, rounds_of}
@@ -13,8 +13,8 @@ use Rattle.tables.specs.declared.rounds.Tally.{Tally}
 pub record Orderly {S : Type 0} (states : ℕ) (held : List (Band S)) : Type 0 where
   pub few : states ≤ 256
   pub order : Ascending held
-  pub sources : All (λ b. b.source < states) held
-  pub targets : All (λ b. b.target < states) held
+  pub sources : AllByRecursion (λ b. b.source < states) held
+  pub targets : AllByRecursion (λ b. b.target < states) held
 
 -- the first ranks are those of the first r rounds
 abbrev pub RanksAfter : {S : Type 0} → Kind S → Model S → ℕ → List ℕ → Type 0

@@ -1,7 +1,7 @@
 -- What a table holds as its user thinks of it, which calls it refuses, and what they leave.
 use Rattle.std.specs.Prelude.{◌≡◌, ℕ, ◌<◌, ◌≤◌, min, Bool, true, false, cond, ◌||◌, List, [], length, Some, None, Ok, Err, Option, Result, ◌==◌, nat_le, nat_lt}
 use Rattle.std.specs.Option.{option_or, ok_or}
-use Rattle.std.specs.List.{AllByRecursion as All}
+use Rattle.std.specs.List.{AllByRecursion}
 use Rattle.amounts.specs.Kinds.{Kind, AtMost}
 use Rattle.refusals.specs.declared.Bound.{Bound}
 use Rattle.refusals.specs.declared.Bound.TheVariants.{Low, High}
@@ -120,7 +120,7 @@ pub record Proper {S : Type 0} (k : Kind S) (l : Left S) : Type 0 where
   pub room : l.states ≤ l.ranks
   pub starts : 0 < l.states → l.start < l.states
   pub fits : length l.held ≤ l.places
-  pub lows : All (λ b. AtMost k b.low k.full) l.held
-  pub highs : All (λ b. AtMost k b.high k.full) l.held
-  pub some : All (λ b. both_nothing k (bounds_of b) ≡ false) l.held
+  pub lows : AllByRecursion (λ b. AtMost k b.low k.full) l.held
+  pub highs : AllByRecursion (λ b. AtMost k b.high k.full) l.held
+  pub some : AllByRecursion (λ b. both_nothing k (bounds_of b) ≡ false) l.held
   pub of_states : l.verdict ≡ true → 0 < l.states
