@@ -1,5 +1,5 @@
 // How many states a record file speaks of.
-ghost use Rattle.std.specs.Prelude.{◌≡◌, ◌≤◌};
+ghost use Rattle.std.specs.Prelude.{◌≡◌};
 ghost use Rattle.records.specs.Reading.{said};
 ghost use Rattle.reports.specs.Reporting.{larger_state, state_count};
 

@@ -1,6 +1,6 @@
 // A band as it lies in the caller's memory.
 ghost use Rattle.std.specs.Prelude.{◌≡◌};
-ghost use Rattle.tables.specs.Held.{pair_of, key_of};
+ghost use Rattle.tables.specs.Held.{pair_of};
 
 /// The bounds of the amount that passes from `source` to `target`.
 #[derive(Clone, Copy)]

@@ -1,5 +1,5 @@
 // The table: bands between states, over memory that the caller lends.
-ghost use Rattle.std.specs.Prelude.{◌≡◌, ℕ, ◌<◌, ◌≤◌, true, ◌||◌, ltb, ◌++◌, length, take, drop, Ok, ◌==◌, nat_lt};
+ghost use Rattle.std.specs.Prelude.{◌≡◌, ℕ, ◌<◌, ◌≤◌, true, ◌||◌, ◌++◌, length, take, drop, Ok, ◌==◌, nat_lt};
 ghost use Rattle.tables.specs.Calls.{left_of, Sound, Lent, Sized, BandSet, Checked, RankAnswer, ReasonAnswer};
 ghost use Rattle.tables.specs.Passes.{rank_in};
 ghost use Rattle.tables.specs.Left.{opened, band_asked, reason_left};
@@ -149,7 +149,7 @@ impl<'a, K: Amount> Table<'a, K> {
 
 /// Whether a table with so many rank places cannot have so many states.
 fn is_no_count(states: usize, rank_places: usize) -> bool
-    ensures { result ≡ (states == 0 || (nat_lt 256 states || ltb rank_places states)) }
+    ensures { result ≡ (states == 0 || (nat_lt 256 states || nat_lt rank_places states)) }
 {
     (states == 0) | (STATES < states) | (rank_places < states)
 }
