@@ -20,7 +20,7 @@ line_short (name s p bs) at can =
     simp (length-append, length-hexadecimal) (omega (arith, state, can.3))
 
 pub counts_short : (counts : Counts) → counts.bands < 2 ^ 64 → counts.names < 2 ^ 64 → length (counts_line counts) ≤ 55
-counts_short counts few-bands few-names =
-    let bands = length-decimal-le 20 counts.bands (omega arith) (omega arith) few-bands in
-    let names = length-decimal-le 20 counts.names (omega arith) (omega arith) few-names in
+counts_short counts few_bands few_names =
+    let bands = length-decimal-le 20 counts.bands (omega arith) (omega arith) few_bands in
+    let names = length-decimal-le 20 counts.names (omega arith) (omega arith) few_names in
     simp length-append (omega (arith, bands, names))

@@ -26,7 +26,7 @@ pub record Sofar (bytes old : List ℕ) (reader : Reader) (text : List ℕ) (end
   pub seen : List Entry
   pub read : Seen bytes reader counts seen
   pub laid : Laid old 0 (flat_map line seen) text end
-  pub short : length (flat_map line seen) ≤ 35 * length (seen)
+  pub short : length (flat_map line seen) ≤ 35 * length seen
 
 module _ {bytes old : List ℕ} {reader : Reader} {text : List ℕ} {end : ℕ} {counts : Counts} (sofar : Sofar bytes old reader text end counts) where
   abbrev told : List ℕ
@@ -52,21 +52,21 @@ module _ {bytes old : List ℕ} {reader : Reader} {text : List ℕ} {end : ℕ} 
 
   pub closed_at_end : Ok None ≡ record_at reader.bytes.now reader.cursor → {new : List ℕ} {r : Result ℕ TooShort} → Put text end (counts_line counts) new r → Closed new r
   closed_at_end here =
-      let whole = told_all None (at_cursor sofar.read (Ok None) here) ∙ ap (λ (c : Counts). told ++ counts_line c) (sym sofar.read.counted) in
+      let whole = told_all None (at_cursor reader sofar.read.input (Ok None) here) ∙ ap (λ (c : Counts). told ++ counts_line c) (sym sofar.read.counted) in
       let fits = index_fits sofar.read in
       let short : length (counts_line counts) ≤ 67 = omega (arith, counts_short counts (omega (arith, fits)) (omega (arith, fits))) in
       closed (counts_line counts) whole short
 
   pub closed_at_fault : (f : RecordFault) → Err f ≡ record_at reader.bytes.now reader.cursor → length (refused_line (refusal_of f) (counts.bands + counts.names)) ≤ 67 → {new : List ℕ} {r : Result ℕ TooShort} → Put text end (refused_line (refusal_of f) (counts.bands + counts.names)) new r → Closed new r
   closed_at_fault f here =
-      closed (refused_line (refusal_of f) (counts.bands + counts.names)) (told_all (Some f) (at_cursor sofar.read (Err f) here) ∙ ap (λ (i : ℕ). told ++ refused_line (refusal_of f) i) (sym (index sofar.read)))
+      closed (refused_line (refusal_of f) (counts.bands + counts.names)) (told_all (Some f) (at_cursor reader sofar.read.input (Err f) here) ∙ ap (λ (i : ℕ). told ++ refused_line (refusal_of f) i) (sym (index sofar.read)))
 
   module _ (e : Entry) (here : Ok (Some e) ≡ record_at reader.bytes.now reader.cursor) (says : Says reader.bytes.now reader.cursor e) where
     line_fits : length (line e) ≤ 35
     line_fits = line_short e reader.cursor says.0
 
     next_room : 0 + length (told ++ line e) ≤ length old
-    next_room = omega (arith, length-append told (line e), line_fits, whole_record sofar.read e here says, sofar.read.at, sofar.short, sofar.few, sofar.room)
+    next_room = omega (arith, length-append told (line e), line_fits, whole_record reader sofar.read.input e says, sofar.read.at, sofar.short, sofar.few, sofar.room)
 
     pub next_fits : end + length (line e) ≤ length text
     next_fits = writes.next_fits sofar.laid (line e) next_room

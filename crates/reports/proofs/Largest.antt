@@ -1,9 +1,7 @@
 -- The largest state number so far: one record more, and the end.
-use Rattle.std.proofs.Common.{◌≡◌, ℕ, ◌+◌, ◌<◌, ◌≤◌, List, [], length, Some, None, Ok, Err, Option, Result, sym, ap, ◌∙◌, arith}
-use Rattle.records.proofs.Contents.{step}
-use Rattle.records.proofs.Encoding.{says_whole}
-use Rattle.records.specs.Contents.{Contents, and_then, contents, contents_from}
-use Rattle.records.specs.Encoding.{Says}
+use Rattle.std.proofs.Common.{◌≡◌, ℕ, ◌+◌, ◌<◌, List, [], Some, None, Ok, Err, sym, ap, ◌∙◌, arith}
+use Rattle.records.proofs.Seen.{at_cursor}
+use Rattle.records.specs.Contents.{Contents, contents, contents_from}
 use Rattle.records.specs.Format.{Entry, record_at}
 use Rattle.records.specs.declared.fault.RecordFault.{RecordFault}
 use Rattle.records.specs.declared.reader.Reader.{Reader}
@@ -19,29 +17,20 @@ pub sofar_none : (bytes : List ℕ) (reader : Reader) → reader.bytes.now ≡ b
 sofar_none bytes reader input start = record { small = omega arith; input = input; rest = ap (λ (at : ℕ). largest_state 0 (contents_from bytes at).entries) (sym start) }
 
 module _ {bytes : List ℕ} {reader : Reader} {largest : ℕ} (sofar : Sofar bytes reader largest) where
-  at_cursor : (a : Result (Option Entry) RecordFault) → a ≡ record_at reader.bytes.now reader.cursor → contents_from bytes reader.cursor ≡ and_then a (contents_from bytes (reader.cursor + 12))
-  at_cursor a here =
-      let same = here ∙ ap (λ (bs : List ℕ). record_at bs reader.cursor) sofar.input in
-      step bytes reader.cursor ∙ ap (λ (b : Result (Option Entry) RecordFault). and_then b (contents_from bytes (reader.cursor + 12))) (sym same)
-
   counted : (contents_from bytes reader.cursor).entries ≡ [] → largest + 1 ≡ state_count bytes
   unfolding largest_state
   counted none = ap (λ (n : ℕ). n + 1) (sym (sofar.rest ∙ ap (largest_state largest) none))
 
   pub counted_at_end : Ok None ≡ record_at reader.bytes.now reader.cursor → largest + 1 ≡ state_count bytes
-  counted_at_end here = counted (ap (λ (c : Contents). c.entries) (at_cursor (Ok None) here))
+  counted_at_end here = counted (ap (λ (c : Contents). c.entries) (at_cursor reader sofar.input (Ok None) here))
 
   pub counted_at_fault : (f : RecordFault) → Err f ≡ record_at reader.bytes.now reader.cursor → largest + 1 ≡ state_count bytes
-  counted_at_fault f here = counted (ap (λ (c : Contents). c.entries) (at_cursor (Err f) here))
+  counted_at_fault f here = counted (ap (λ (c : Contents). c.entries) (at_cursor reader sofar.input (Err f) here))
 
-  module _ (e : Entry) (here : Ok (Some e) ≡ record_at reader.bytes.now reader.cursor) where
-    pub whole_record : Says reader.bytes.now reader.cursor e → reader.cursor + 12 ≤ length bytes
-    whole_record says = rw sofar.input at (says_whole reader.bytes.now reader.cursor e says)
-
-    pub sofar_more : (after : Reader) (larger : ℕ) → larger < 256 → after.bytes ≡ reader.bytes → after.cursor ≡ reader.cursor + 12 → larger ≡ larger_state largest e → Sofar bytes after larger
-    unfolding largest_state
-    sofar_more after larger small same moved is = record {
-      small = small;
-      input = ap (λ b. b.now) same ∙ sofar.input;
-      rest = sofar.rest ∙ ap (λ (c : Contents). largest_state largest c.entries) (at_cursor (Ok (Some e)) here) ∙ (λ i. largest_state (sym is i) (contents_from bytes (sym moved i)).entries);
-    }
+  pub sofar_more : (e : Entry) → Ok (Some e) ≡ record_at reader.bytes.now reader.cursor → (after : Reader) (larger : ℕ) → larger < 256 → after.bytes ≡ reader.bytes → after.cursor ≡ reader.cursor + 12 → larger ≡ larger_state largest e → Sofar bytes after larger
+  unfolding largest_state
+  sofar_more e here after larger small same moved is = record {
+    small = small;
+    input = ap (λ b. b.now) same ∙ sofar.input;
+    rest = sofar.rest ∙ ap (λ (c : Contents). largest_state largest c.entries) (at_cursor reader sofar.input (Ok (Some e)) here) ∙ (λ i. largest_state (sym is i) (contents_from bytes (sym moved i)).entries);
+  }

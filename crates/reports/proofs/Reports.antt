@@ -25,7 +25,7 @@ module _ (bytes old new : List ℕ) (before after : Memory) (room : 4_096 ≤ le
       ∙ sym (ap (λ (long : Bool). cond long (refused_line LongInput 0) lines) (le-ltb 61_440 (length bytes) few))
 
   pub all_reported : (n : ℕ) → Put old 0 (table_text first bytes) new (Ok n) → length (table_text first bytes) ≤ 4_096 → Sound shares last → left_of last ≡ report_left (length first.bands.now) (length first.ranks.now) bytes → after.bands ≡ last.bands.now → after.ranks ≡ last.ranks.now → Reported bytes old new before after (Ok n)
-  all_reported n put short sound left bands-after ranks-after =
+  all_reported n put short sound left bands_after ranks_after =
       let fits : length text ≤ 4_096 = subst (λ (ys : List ℕ). length ys ≤ 4_096) text_is short in
       let both = done old 0 text (subst (λ (ys : List ℕ). Put old 0 ys new (Ok n)) text_is put) (omega (arith, fits)) in
       let enough : leb 4_096 (length old) ≡ true = le-leb 4_096 (length old) room in
@@ -37,7 +37,7 @@ module _ (bytes old new : List ℕ) (before after : Memory) (room : 4_096 ≤ le
         fits = λ _. fits;
         memory = λ _ _.
             subst (HoldsLeft after) (left ∙ (λ i. report_left (length (bands i)) (length (ranks i)) bytes))
-            (subst (λ (m : Memory). HoldsLeft m (left_of last)) (sym (λ i. record { bands = bands-after i; ranks = ranks-after i })) (holds_left last sound));
+            (subst (λ (m : Memory). HoldsLeft m (left_of last)) (sym (λ i. record { bands = bands_after i; ranks = ranks_after i })) (holds_left last sound));
         refused = λ less. absurd (omega arith);
         long = λ less. absurd (omega arith);
       }

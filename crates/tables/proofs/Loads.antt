@@ -81,10 +81,10 @@ module _ {S : Type 0} (k : Kind S) (amount_of : ℕ → Option S) (before : Tabl
         (is ∙ ap₂ (λ (es : List Entry) (o : Option RecordFault). end_answer es o) (sym all.0) (sym all.1)) refl
 
     pub closed_at_end : Ok None ≡ record_at reader.bytes.now reader.cursor → Sound k before → 0 < before.states → Loads k amount_of before now bytes (Ok counts)
-    closed_at_end here = closed None (at_cursor loading.read (Ok None) here) (Ok counts) (ap (λ (c : Counts). Ok c) loading.read.counted)
+    closed_at_end here = closed None (at_cursor reader loading.read.input (Ok None) here) (Ok counts) (ap (λ (c : Counts). Ok c) loading.read.counted)
 
     pub closed_at_fault : (f : RecordFault) → Err f ≡ record_at reader.bytes.now reader.cursor → Sound k before → 0 < before.states → Loads k amount_of before now bytes (Err (Records (counts.bands + counts.names) f))
-    closed_at_fault f here = closed (Some f) (at_cursor loading.read (Err f) here) _ (ap (λ (i : ℕ). Err (Records i f)) (index loading.read))
+    closed_at_fault f here = closed (Some f) (at_cursor reader loading.read.input (Err f) here) _ (ap (λ (i : ℕ). Err (Records i f)) (index loading.read))
 
     module _ (e : Entry) (here : Ok (Some e) ≡ record_at reader.bytes.now reader.cursor) where
       -- the load of what follows the record at the cursor
@@ -93,7 +93,7 @@ module _ {S : Type 0} (k : Kind S) (amount_of : ℕ → Option S) (before : Tabl
 
       whole_with : Sound k before → load_of k amount_of (left_of before) bytes ≡ later (length loading.seen) (and_one (entry_refusal k amount_of (left_of now) e) (left_of now) rest_of)
       unfolding loaded
-      whole_with sound = (loading.accepted sound).rest ∙ ap (λ (c : Contents). later (length loading.seen) (loaded k amount_of (left_of now) c.entries)) (at_cursor loading.read (Ok (Some e)) here)
+      whole_with sound = (loading.accepted sound).rest ∙ ap (λ (c : Contents). later (length loading.seen) (loaded k amount_of (left_of now) c.entries)) (at_cursor reader loading.read.input (Ok (Some e)) here)
 
       pub closed_at_refusal : (after : Table S) (refusal : Refusal) → (Sound k now → Accepts k amount_of now after e (Err refusal)) → Sound k before → 0 < before.states → Loads k amount_of before after bytes (Err (OfTable (counts.bands + counts.names) refusal))
       closed_at_refusal after refusal accepts sound some =

@@ -222,9 +222,9 @@ module _ {S : Type 0} where
     pub length_with_held : is_held held (key_of b) ≡ true → both_nothing k (bounds_of b) ≡ false → Ascending held → length (with_band k b held) ≡ length held
     length_with_held has some order = omega (arith, length_with, ap length (held_for_some some), parts_present b held has order)
 
-    pub length-cleared_held : is_held held (key_of b) ≡ true → both_nothing k (bounds_of b) ≡ true → Ascending held → length (with_band k b held) + 1 ≡ length held
-    length-cleared_held has none order = omega (arith, length_with, ap length (held_for_nothing none), parts_present b held has order)
+    pub length_cleared_held : is_held held (key_of b) ≡ true → both_nothing k (bounds_of b) ≡ true → Ascending held → length (with_band k b held) + 1 ≡ length held
+    length_cleared_held has none order = omega (arith, length_with, ap length (held_for_nothing none), parts_present b held has order)
 
-    pub length-cleared_absent : is_held held (key_of b) ≡ false → both_nothing k (bounds_of b) ≡ true → Ascending held → with_band k b held ≡ held
-    length-cleared_absent out none order =
+    pub cleared_absent : is_held held (key_of b) ≡ false → both_nothing k (bounds_of b) ≡ true → Ascending held → with_band k b held ≡ held
+    cleared_absent out none order =
         ap (λ (own : List (Band S)). before (key_of b) held ++ (own ++ after (key_of b) held)) (held_for_nothing none) ∙ parts_absent (key_of b) held out order

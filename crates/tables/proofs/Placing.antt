@@ -7,7 +7,7 @@ use Rattle.amounts.specs.Kinds.{Kind}
 use Rattle.refusals.specs.declared.Refusal.TheVariants.{NoFreePlace}
 use Rattle.tables.specs.Held.{key_of, bounds_of, Ascending, is_held, before, after, both_nothing, held_for, with_band, lacks_place, Found, Placed}
 use Rattle.tables.specs.declared.band.Band.{Band}
-use Rattle.tables.proofs.Orders.{before_is, after_absent, after_present, held_present, held_absent, length_with_new, length_with_held, length-cleared_held, length-cleared_absent}
+use Rattle.tables.proofs.Orders.{before_is, after_absent, after_present, held_present, held_absent, length_with_new, length_with_held, length_cleared_held, cleared_absent}
 
 take-set_below : {X : Type 0} (n : ℕ) (xs : List X) (i : ℕ) (y : X) → take n (set xs i y) ≡ set (take n xs) i y
 take-set_below zero xs i y = refl
@@ -48,7 +48,7 @@ module _ {S : Type 0} (k : Kind S) (b : Band S) (count : ℕ) (old : List (Band 
 
       pub cleared : both_nothing k (bounds_of b) ≡ true → take (count - 1) new ≡ remove held p → Placed k b count old new (Ok (count - 1))
       cleared nothing gone =
-          let less : length (with_band k b held) ≡ count - 1 = omega (arith, many, length-cleared_held k b held known nothing order) in
+          let less : length (with_band k b held) ≡ count - 1 = omega (arith, many, length_cleared_held k b held known nothing order) in
           puts (count - 1) new (rw known) less (gone ∙ parts (take p held) [] (drop (suc p) held) (before_is found.0) (rw nothing) later)
 
       pub replaced : both_nothing k (bounds_of b) ≡ false → new ≡ set old p b → Placed k b count old new (Ok count)
@@ -64,7 +64,7 @@ module _ {S : Type 0} (k : Kind S) (b : Band S) (count : ℕ) (old : List (Band 
 
       pub nothing_new : both_nothing k (bounds_of b) ≡ true → new ≡ old → Placed k b count old new (Ok count)
       nothing_new nothing is =
-          let same = length-cleared_absent k b held unknown nothing order in
+          let same = cleared_absent k b held unknown nothing order in
           puts count new (rw (unknown, nothing)) (ap length same ∙ many) (ap (take count) is ∙ sym same)
 
       pub added : both_nothing k (bounds_of b) ≡ false → count < min (length old) 4_096 → take (count + 1) new ≡ insert held p b → Placed k b count old new (Ok (count + 1))

@@ -48,10 +48,10 @@ module _ {S : Type 0} {k : Kind S} (laws : Laws k) (m : Model S) (x : ℕ → Bo
   module _ {v : ℕ} {crossed : Option ℕ} {low high : S} (seen : Seen v crossed low high) where
     -- the state v adds nothing to either total
     adds_none : low_inside k m x s v ≡ k.nothing → high_inside k m x s v ≡ k.nothing → is_lost k m x s v ≡ false → is_crossed k m x s v ≡ false → Seen (suc v) crossed low high
-    adds_none no-low no-high kept ordered =
+    adds_none no_low no_high kept ordered =
         seen_one seen kept crossed (rw ordered (same_other crossed)) low high
-        (rw no-low (same_sym laws (total_nothing_right laws low)))
-        (rw no-high (same_sym laws (total_nothing_right laws high)))
+        (rw no_low (same_sym laws (total_nothing_right laws low)))
+        (rw no_high (same_sym laws (total_nothing_right laws high)))
       where
         same_other : (o : Option ℕ) → option_or o None ≡ o
         same_other None = refl

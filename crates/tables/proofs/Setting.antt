@@ -13,7 +13,7 @@ use Rattle.tables.specs.declared.band.Band.{Band}
 use Rattle.tables.specs.declared.table.Table.{Table}
 use Rattle.tables.proofs.Lookups.{pairs_same, reads_own, reads_other}
 use Rattle.tables.proofs.Refusing.{answered_ok, answered_err, both_none, not_refused, not_refused_else}
-use Rattle.tables.proofs.Orders.{with_ascending, all_with, length_with_new, length_with_held, length-cleared_held, length-cleared_absent}
+use Rattle.tables.proofs.Orders.{with_ascending, all_with, length_with_new, length_with_held, length_cleared_held, cleared_absent}
 
 -- arguments that are not refused make a band of the table
 record Makes {S : Type 0} (k : Kind S) (states : ℕ) (b : Band S) : Type 0 where
@@ -46,13 +46,13 @@ module _ {S : Type 0} (k : Kind S) (l : Left S) (b : Band S) (proper : Proper k 
       (λ (known : is_held held (key_of b) ≡ true).
       ⊎_elim
       (λ (nothing : both_nothing k (bounds_of b) ≡ true).
-      let less : length (with_band k b held) ≡ length held - 1 = omega (arith, length-cleared_held k b held known nothing proper.orderly.order) in
+      let less : length (with_band k b held) ≡ length held - 1 = omega (arith, length_cleared_held k b held known nothing proper.orderly.order) in
       less ∙ rw (known, nothing))
       (λ (some : both_nothing k (bounds_of b) ≡ false). length_with_held k b held known some proper.orderly.order ∙ rw (known, some))
       (cases_Bool (both_nothing k (bounds_of b))))
       (λ (unknown : is_held held (key_of b) ≡ false).
       ⊎_elim
-      (λ (nothing : both_nothing k (bounds_of b) ≡ true). ap length (length-cleared_absent k b held unknown nothing proper.orderly.order) ∙ rw (unknown, nothing))
+      (λ (nothing : both_nothing k (bounds_of b) ≡ true). ap length (cleared_absent k b held unknown nothing proper.orderly.order) ∙ rw (unknown, nothing))
       (λ (some : both_nothing k (bounds_of b) ≡ false). length_with_new k b held unknown some proper.orderly.order ∙ rw (unknown, some))
       (cases_Bool (both_nothing k (bounds_of b))))
       (cases_Bool (is_held held (key_of b)))

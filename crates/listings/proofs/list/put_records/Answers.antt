@@ -44,7 +44,7 @@ pub records-smaller : goal.records-smaller
 records-smaller c =
     let entry = said c.in-Some.entry in
     let read = rw c.in-Some.is at c.in-Ok.ensures in
-    omega (arith, read.cursor, whole_record c.records.invariant.read entry read.stands.answer read.stands.tells.told)
+    omega (arith, read.cursor, whole_record c.records.reader c.records.invariant.read.input entry read.stands.tells.told)
 
 pub records-preserved : goal.records-preserved
 records-preserved c =

@@ -1,7 +1,8 @@
 -- `state_count`: a record, the end and a fault each lead on as the count has it.
 use Rattle.std.proofs.Common.{ap, arith}
 use Rattle.records.specs.Reading.{said}
-use Rattle.reports.proofs.Largest.{sofar_none, sofar_more, counted_at_end, counted_at_fault, whole_record}
+use Rattle.reports.proofs.Largest.{sofar_none, sofar_more, counted_at_end, counted_at_fault}
+use Rattle.records.proofs.Seen.{whole_record}
 use Rattle.reports.proofs.states.state_count.Goals as goal
 
 pub records-init : goal.records-init
@@ -22,7 +23,7 @@ returns-in_default c = rw c.from-in_default.ensures (counted_at_end c.records.in
 pub records-smaller : goal.records-smaller
 records-smaller c =
     let read = rw c.in-Some.is at c.in-Ok.ensures in
-    omega (arith, read.cursor, whole_record c.records.invariant (said c.in-Some.entry) read.stands.answer read.stands.tells.told)
+    omega (arith, read.cursor, whole_record c.records.reader c.records.invariant.input (said c.in-Some.entry) read.stands.tells.told)
 
 pub records-preserved : goal.records-preserved
 records-preserved c =

@@ -40,7 +40,7 @@ pub records-smaller : goal.records-smaller
 records-smaller g c =
     let read = indexed_ok _ c.next.result c.in_ok-entry.field-0 (sym c.at_index.ensures ∙ c.in_ok-entry.was) in
     let next = rw (read, c.in-Some.is) at c.next.ensures in
-    omega (arith, next.cursor, whole_record c.records.invariant.read (said c.in-Some.entry) next.stands.answer next.stands.tells.told)
+    omega (arith, next.cursor, whole_record c.records.reader c.records.invariant.read.input (said c.in-Some.entry) next.stands.tells.told)
 
 pub records-preserved : goal.records-preserved
 records-preserved g c =
