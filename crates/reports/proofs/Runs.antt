@@ -55,6 +55,6 @@ module _ (t : Table Share) (bytes : List ℕ) where
 -- the places of a sound table hold what it holds
 pub holds_left : (t : Table Share) → Sound shares t → HoldsLeft (record { bands = t.bands.now; ranks = t.ranks.now }) (left_of t)
 holds_left t sound = record {
-  held = ap (λ (n : ℕ). take n t.bands.now) (length-take-le t.held t.bands.now sound.within);
+  held = ap (λ (n : ℕ). take n t.bands.now) (length-take-le t.held t.bands.now t.within);
   ranks = sound.ranked;
 }

@@ -76,16 +76,15 @@ fn ranked(table: &mut Table<'_, Share>, records: &[u8]) -> Result<Verdict, Stop>
 /// Writes the lines of a table whose verdict is in force.
 fn put_lines(
     text: &mut [u8],
-    table: &mut Table<'_, Share>,
+    table: &Table<'_, Share>,
     verdict: &Verdict,
 ) -> Result<usize, TooShort>
     requires room { 4096 ≤ length text.old }
-    requires sound { Sound shares table.old }
-    requires checked { table.old.checked ≡ true }
-    requires verdict { VerdictOn shares (left_of table.old) verdict.now }
-    ensures writes { Put text.old 0 (report_lines (left_of table.old)) text.new result }
-    ensures short { length (report_lines (left_of table.old)) ≤ 4096 }
-    ensures same { table.new ≡ table.old }
+    requires sound { Sound shares table.now }
+    requires checked { table.now.checked ≡ true }
+    requires verdict { VerdictOn shares (left_of table.now) verdict.now }
+    ensures writes { Put text.old 0 (report_lines (left_of table.now)) text.new result }
+    ensures short { length (report_lines (left_of table.now)) ≤ 4096 }
 {
     let mut end = 0;
     for state in 0..verdict.states {

@@ -1,5 +1,6 @@
 -- A load so far: one record more, and the ways it ends.
 use Rattle.std.proofs.Common.{◌≡◌, ℕ, ◌+◌, ◌-◌, ◌^◌, ◌<◌, eqb, List, [], ◌∷◌, ◌++◌, length, Some, None, Ok, Err, Option, Result, sym, refl, ap, ◌∙◌, ap₂, arith}
+use Rattle.std.specs.Prelude.{IsErrAnd, MatchResult}
 use Rattle.std.proofs.lemmas.List.{length_push}
 use Rattle.std.proofs.lemmas.Bool.{cond_both, ne_eqb}
 use Rattle.amounts.specs.Kinds.{Kind}
@@ -14,21 +15,27 @@ use Rattle.records.specs.declared.reader.Reader.{Reader}
 use Rattle.refusals.specs.declared.Refusal.{Refusal}
 use Rattle.tables.specs.Calls.{left_of, Lent, Sound}
 use Rattle.tables.specs.Left.{Left}
-use Rattle.tables.specs.Loading.{Accepts, Loaded, Loads, and_one, end_answer, entry_left, entry_refusal, load_answer, loaded, load_of, indexed}
+use Rattle.tables.specs.Loading.{Accepts, Loaded, Loads, and_one, end_answer, entry_left, entry_refusal, load_answer, loaded, load_of}
 use Rattle.tables.specs.declared.load.LoadFault.{LoadFault}
 use Rattle.tables.specs.declared.load.LoadFault.TheVariants.{Records, Table as OfTable}
 use Rattle.tables.specs.declared.load.Numbered.{Numbered}
 use Rattle.tables.specs.declared.table.Table.{Table}
 use Rattle.tables.proofs.Refusing.{answered_ok, answered_err}
 
--- what a result with an index tells of the result
-pub indexed_ok : {T F : Type 0} (index : ℕ) (r : Result T F) (x : T) → indexed index r ≡ Ok x → r ≡ Ok x
-indexed_ok index (Ok y) x is = cc
-indexed_ok index (Err f) x is = let z : ◌≡◌ {A = ℕ} 0 1 = cc in absurd (omega arith)
+-- what a result tells whose fault was given the index of its record
+module _ {T F : Type 0} (P : F → Numbered F → Type 0) where
+  pub read_ok : (r : Result T F) (s : Result T (Numbered F)) (x : T) → MatchResult r (λ y. s ≡ Ok y) (λ f. IsErrAnd s (P f)) → s ≡ Ok x → r ≡ Ok x
+  read_ok (Ok y) s x cases is = let same : ◌≡◌ {A = Result T (Numbered F)} (Ok y) (Ok x) = sym cases ∙ is in cc
+  read_ok (Err f) (Ok y) x cases is = absurd cases
+  read_ok (Err f) (Err n) x cases is = let z : ◌≡◌ {A = ℕ} 0 1 = cc in absurd (omega arith)
 
-pub indexed_err : {T F : Type 0} (index : ℕ) (r : Result T F) (n : Numbered F) → indexed index r ≡ Err n → (r ≡ Err n.fault) × (n.index ≡ index)
-indexed_err index (Ok y) n is = let z : ◌≡◌ {A = ℕ} 0 1 = cc in absurd (omega arith)
-indexed_err index (Err f) n is = let same : ◌≡◌ {A = Numbered _} (record { index = index; fault = f }) n = cc in (ap (λ m. Err m.fault) same, sym (ap (λ m. m.index) same))
+  pub read_err : (at : ℕ) (r : Result T F) (s : Result T (Numbered F)) (n : Numbered F) → MatchResult r (λ y. s ≡ Ok y) (λ f. IsErrAnd s (P f)) → ((f : F) (m : Numbered F) → P f m → m ≡ record { index = at; fault = f }) → s ≡ Err n → (r ≡ Err n.fault) × (n.index ≡ at)
+  read_err at (Ok y) s n cases gives is = let same : ◌≡◌ {A = Result T (Numbered F)} (Ok y) (Err n) = sym cases ∙ is in let z : ◌≡◌ {A = ℕ} 0 1 = cc in absurd (omega arith)
+  read_err at (Err f) (Ok y) n cases gives is = absurd cases
+  read_err at (Err f) (Err m) n cases gives is =
+      let same : m ≡ n = cc in
+      let given : n ≡ record { index = at; fault = f } = sym same ∙ gives f m cases in
+      (ap (λ (o : Numbered F). Err o.fault) (sym given), ap (λ (o : Numbered F). o.index) given)
 
 -- so many more were accepted before
 abbrev later : {S : Type 0} → ℕ → Loaded S → Loaded S

@@ -1,7 +1,6 @@
 -- Why a ranked state fell: what is found by the ranks of a sound table.
-use Rattle.std.proofs.Common.{◌≡◌, ℕ, suc, ◌-◌, ◌<◌, ◌≤◌, true, List, length, Some, None, Err, Option, Result, sym, refl, ◌∙◌, subst, ⊎_elim, arith}
-use Rattle.std.proofs.lemmas.List.{get_or_past}
-use Rattle.std.proofs.lemmas.Bool.{cases_eq, cases_lt, eq-eqb, ne_eqb}
+use Rattle.std.proofs.Common.{◌≡◌, ℕ, suc, ◌-◌, ◌<◌, true, Some, None, Err, Option, Result, sym, refl, ◌∙◌, subst, ⊎_elim, arith}
+use Rattle.std.proofs.lemmas.Bool.{cases_eq, eq-eqb, ne_eqb}
 use Rattle.std.specs.Option.{ok_or}
 use Rattle.amounts.specs.Kinds.{Kind, Laws}
 use Rattle.refusals.specs.declared.Refusal.{Refusal}
@@ -12,25 +11,26 @@ use Rattle.theory.specs.Consistency.{reason_of}
 use Rattle.theory.specs.Rounds.{not_before}
 use Rattle.theory.specs.declared.reason.Reason.{Reason}
 use Rattle.tables.specs.Calls.{left_of, Sound, ReasonAnswer}
-use Rattle.tables.specs.Left.{Left, model_in, rank_left, reason_left, reason_answer, question_refusal}
+use Rattle.tables.specs.Left.{Left, as_rank, model_in, rank_left, reason_left, reason_answer, question_refusal}
 use Rattle.tables.specs.Passes.{rank_in}
 use Rattle.tables.specs.declared.table.Table.{Table}
 
--- a rank other than 0 stands in its place
-pub ranked_within : (ranks : List ℕ) (u : ℕ) → (rank_in ranks u ≡ 0 → ⊥) → u < length ranks
-ranked_within ranks u some = ⊎_elim (λ (below : u < length ranks). below) (λ (past : length ranks ≤ u). absurd (some (get_or_past ranks u 0 past))) (cases_lt u (length ranks))
+-- a rank that is not 0 is shown as it is
+pub rank_some : (r rank : ℕ) → Some rank ≡ as_rank r → (r ≡ 0 → ⊥) × (rank ≡ r)
+rank_some r rank is =
+    ⊎_elim
+    (λ (zero : r ≡ 0). let z : ◌≡◌ {A = ℕ} 0 1 = let none : Some rank ≡ None = is ∙ rw (eq-eqb r 0 zero) in cc in absurd (omega arith))
+    (λ (some : r ≡ 0 → ⊥). (some, let same : Some rank ≡ Some r = is ∙ rw (ne_eqb r 0 some) in cc))
+    (cases_eq r 0)
 
-module _ {S : Type 0} (k : Kind S) (t : Table S) (sound : Sound k t) (in_force : t.checked ≡ true) (ranks : List ℕ) (read : (v : ℕ) → v < t.states → rank_in ranks v ≡ rank_in t.ranks.now v) (u : ℕ) (inside : u < t.states) where
-  true_rank : (v : ℕ) → v < t.states → rank_in ranks v ≡ rank_left k (left_of t) v
-  true_rank v below = read v below ∙ sound.ranked in_force v below
+module _ {S : Type 0} (k : Kind S) (t : Table S) (sound : Sound k t) (in_force : t.checked ≡ true) (u : ℕ) (inside : u < t.states) where
+  pub no_reason : rank_in t.ranks.now u ≡ 0 → None ≡ reason_left k (left_of t) u
+  no_reason none = rw (eq-eqb (rank_left k (left_of t) u) 0 (sym (sound.ranked in_force u inside) ∙ none))
 
-  pub no_reason : rank_in ranks u ≡ 0 → None ≡ reason_left k (left_of t) u
-  no_reason none = rw (eq-eqb (rank_left k (left_of t) u) 0 (sym (true_rank u inside) ∙ none))
-
-  pub reason_found : (rank_in ranks u ≡ 0 → ⊥) → reason_of k (model_in k (left_of t)) (not_before (rank_in ranks) (rank_in ranks u)) u ≡ reason_left k (left_of t) u
+  pub reason_found : (rank_in t.ranks.now u ≡ 0 → ⊥) → reason_of k (model_in k (left_of t)) (not_before (rank_in t.ranks.now) (rank_in t.ranks.now u)) u ≡ reason_left k (left_of t) u
   reason_found some =
-      let r = true_rank u inside in
-      let same = reason_same k (model_in k (left_of t)) (not_before (rank_in ranks) (rank_in ranks u)) (not_before (rank_left k (left_of t)) (rank_left k (left_of t) u)) u (λ v below. rw (true_rank v below, r)) in
+      let r = sound.ranked in_force u inside in
+      let same = reason_same k (model_in k (left_of t)) (not_before (rank_in t.ranks.now) (rank_in t.ranks.now u)) (not_before (rank_left k (left_of t)) (rank_left k (left_of t) u)) u (λ v below. rw (sound.ranked in_force v below, r)) in
       same ∙ rw (ne_eqb (rank_left k (left_of t) u) 0 (λ zero. some (r ∙ zero)))
 
 -- every ranked state has a reason

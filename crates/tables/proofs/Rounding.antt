@@ -1,7 +1,8 @@
 -- A round, state by state, and all rounds, one by one.
-use Rattle.std.proofs.Common.{◌≡◌, ℕ, suc, ◌+◌, ◌<◌, ◌≤◌, Bool, true, false, cond, ◌&&◌, eqb, ◌⊎◌, List, length, set, is_some, sym, refl, ◌∙◌, subst, ap₂, inl, inr, ⊎_elim, arith}
-use Rattle.std.proofs.lemmas.List.{get_or-set_same, get_or-set_other}
-use Rattle.std.proofs.lemmas.Bool.{and_cases, and_parts, cases_eq, cases_lt, eqb-false, eqb-true}
+use Rattle.std.proofs.Common.{◌≡◌, ℕ, suc, ◌+◌, ◌<◌, ◌≤◌, Bool, true, false, cond, ◌&&◌, eqb, ◌==◌, ◌⊎◌, List, length, replicate, set, is_some, sym, refl, ◌∙◌, subst, ap₂, inl, inr, ⊎_elim, arith}
+use Rattle.std.proofs.lemmas.List.{get_or-replicate, get_or-set_same, get_or-set_other}
+use Rattle.std.proofs.lemmas.List.Sums.{sum_by-set}
+use Rattle.std.proofs.lemmas.Bool.{and_cases, and_parts, cases_eq, cases_lt, eqb-false, eqb-true, ne_eqb}
 use Rattle.amounts.specs.Kinds.{Kind}
 use Rattle.theory.proofs.Consistency.{reason_same}
 use Rattle.theory.proofs.Rounds.{Progress, not_before_lem, progress_bound, progress_more, progress_start, rank_falls, rank_kept, rank_stays, removed_is, rounds_is, settled}
@@ -9,7 +10,20 @@ use Rattle.theory.specs.Consistency.{reason_of}
 use Rattle.theory.specs.Models.{Model, count_below}
 use Rattle.theory.specs.Rounds.{everyone, standing, falls_after, rank_within, not_before}
 use Rattle.tables.specs.Judging.{RanksAfter, Ranked, Round}
-use Rattle.tables.specs.Passes.{rank_in}
+use Rattle.tables.specs.Passes.{rank_in, standing_count}
+use Rattle.tables.specs.declared.tally.Tally.{Tally}
+
+-- one more rank leaves one state fewer that stands
+pub standing_less : (ranks : List ℕ) (t r : ℕ) → t < length ranks → rank_in ranks t ≡ 0 → 0 < r → standing_count (set ranks t r) + 1 ≡ standing_count ranks
+standing_less ranks t r below none some =
+    let sums = sum_by-set (λ (x : ℕ). cond (x == 0) 1 0) ranks t r 0 below in
+    let stood = rw (none, ne_eqb r 0 (λ zero_rank. omega arith)) at sums in
+    omega (arith, stood)
+
+-- before the first round all ranks are 0
+pub none_yet : {S : Type 0} (k : Kind S) (m : Model S) (ranks : List ℕ) → ranks ≡ replicate m.states 0 → RanksAfter k m 0 ranks
+unfolding rank_within
+none_yet k m ranks all t below = rw all (get_or-replicate m.states t 0 0 below)
 
 module _ {S : Type 0} (k : Kind S) (m : Model S) (r : ℕ) where
   -- the states below t have the ranks of one round more
@@ -104,11 +118,11 @@ module _ {S : Type 0} (k : Kind S) (m : Model S) where
       }
 
   -- a round in which none falls is not counted
-  pub sofar_all : {r : ℕ} {ranks : List ℕ} {removed : ℕ} → Sofar k m r ranks removed → count_below (falls_after k m everyone r) m.states ≡ 0 → (after : List ℕ) → ((t : ℕ) → t < m.states → rank_in after t ≡ rank_within k m everyone r t) → Ranked k m after (record { removed = removed; rounds = r })
-  sofar_all sofar quiet after same = record {
+  pub sofar_all : {r : ℕ} {ranks : List ℕ} {removed : ℕ} → Sofar k m r ranks removed → count_below (falls_after k m everyone r) m.states ≡ 0 → (after : List ℕ) → ((t : ℕ) → t < m.states → rank_in after t ≡ rank_within k m everyone r t) → (tally : Tally) → tally.removed ≡ removed → tally.rounds ≡ r → Ranked k m after tally
+  sofar_all sofar quiet after same tally removed rounds = record {
     ranks = λ t inside. same t inside ∙ settled k m everyone sofar.progress quiet t inside;
-    removed = sym (removed_is k m sofar.progress quiet);
-    rounds = sym (rounds_is k m sofar.progress quiet);
+    removed = removed ∙ sym (removed_is k m sofar.progress quiet);
+    rounds = rounds ∙ sym (rounds_is k m sofar.progress quiet);
   }
 
   -- where there have been as many rounds as states, no state is left to fall
@@ -119,9 +133,9 @@ module _ {S : Type 0} (k : Kind S) (m : Model S) where
       (λ (none : count_below (falls_after k m everyone r) m.states ≤ 0). omega arith)
       (cases_lt 0 (count_below (falls_after k m everyone r) m.states))
 
-  pub sofar_spent : {r : ℕ} {ranks : List ℕ} {removed : ℕ} → Sofar k m r ranks removed → r ≡ m.states → Ranked k m ranks (record { removed = removed; rounds = m.states })
-  sofar_spent {r} {ranks} {removed} sofar end =
-      subst (λ (n : ℕ). Ranked k m ranks (record { removed = removed; rounds = n })) end (sofar_all sofar (spent sofar.progress end) ranks sofar.after)
+  pub sofar_spent : {r : ℕ} {ranks : List ℕ} {removed : ℕ} → Sofar k m r ranks removed → r ≡ m.states → (tally : Tally) → tally.removed ≡ removed → tally.rounds ≡ m.states → Ranked k m ranks tally
+  sofar_spent {r} {ranks} {removed} sofar end tally all_removed all_rounds =
+      sofar_all sofar (spent sofar.progress end) ranks sofar.after tally all_removed (all_rounds ∙ sym end)
 
   -- nor does it change a rank
   pub quiet_round : {r : ℕ} {next : List ℕ} {fallen : ℕ} → Round k m r next fallen → fallen ≡ 0 → (t : ℕ) → t < m.states → rank_in next t ≡ rank_within k m everyone r t

@@ -1,5 +1,5 @@
 -- What a set leaves: a sound table, read as its user expects, or the table as it was.
-use Rattle.std.proofs.Common.{◌≡◌, ℕ, ◌+◌, ◌-◌, ◌<◌, ◌≤◌, min, Bool, true, false, cond, not, ◌&&◌, leb, List, length, take, is_some, Some, None, Ok, Err, Result, sym, refl, ap, ◌∙◌, subst, ⊎_elim, arith}
+use Rattle.std.proofs.Common.{◌≡◌, ℕ, ◌+◌, ◌-◌, ◌<◌, ◌≤◌, min, Bool, true, false, cond, not, ◌&&◌, leb, List, length, is_some, Some, None, Ok, Err, Result, sym, refl, ap, ◌∙◌, subst, ⊎_elim, arith}
 use Rattle.std.proofs.lemmas.Bool.{cases_Bool, leb-false, false≢true, true≢false}
 use Rattle.amounts.specs.Kinds.{Kind, AtMost}
 use Rattle.refusals.specs.declared.Bound.TheVariants.{Low, High}
@@ -7,8 +7,9 @@ use Rattle.refusals.specs.declared.Refusal.{Refusal}
 use Rattle.refusals.specs.declared.Refusal.TheVariants.{NoFreePlace}
 use Rattle.theory.proofs.Sameness.{at_most_from_test}
 use Rattle.tables.specs.Calls.{left_of, Sound, count_after, Reads, BandSet}
-use Rattle.tables.specs.Held.{key_of, bounds_of, is_held, both_nothing, with_band, lacks_place, Placed}
+use Rattle.tables.specs.Held.{key_of, bounds_of, is_held, both_nothing, with_band, lacks_place}
 use Rattle.tables.specs.Left.{Left, Proper, answered, no_states, no_such_state, no_amount, no_band, set_refusal, banded}
+use Rattle.tables.specs.Places.{Placed, bands_of}
 use Rattle.tables.specs.declared.band.Band.{Band}
 use Rattle.tables.specs.declared.table.Table.{Table}
 use Rattle.tables.proofs.Lookups.{pairs_same, reads_own, reads_other}
@@ -92,9 +93,6 @@ module _ {S : Type 0} (k : Kind S) (l : Left S) (b : Band S) (proper : Proper k 
   }
 
 module _ {S : Type 0} (k : Kind S) (t : Table S) (b : Band S) (sound : Sound k t) where
-  states_few : min t.states 256 ≡ t.states
-  states_few = omega (arith, sound.proper.orderly.few)
-
   refuses : (f : Refusal) → set_refusal k (left_of t) b ≡ Some f → BandSet k t t b (Err f)
   refuses f first = record {
     answer = rw first;
@@ -105,67 +103,55 @@ module _ {S : Type 0} (k : Kind S) (t : Table S) (b : Band S) (sound : Sound k t
   }
 
   -- the arguments are refused
-  pub not_made : (f : Refusal) → Err f ≡ answered (no_band k (min t.states 256) b) b → BandSet k t t b (Err f)
+  pub not_made : (f : Refusal) → Err f ≡ answered (no_band k t.states b) b → BandSet k t t b (Err f)
   not_made f is =
-      let refusal : no_band k t.states b ≡ Some f = answered_err _ b f (rw states_few at is) in
+      let refusal : no_band k t.states b ≡ Some f = answered_err _ b f is in
       let first : set_refusal k (left_of t) b ≡ Some f = rw refusal in
       refuses f first
 
-  module _ (band : Band S) (is : Ok band ≡ answered (no_band k (min t.states 256) b) b) (count : ℕ) (all_held : count ≡ t.held) where
+  module _ (band : Band S) (is : Ok band ≡ answered (no_band k t.states b) b) where
     accepted : no_band k t.states b ≡ None
-    accepted = (answered_ok _ b band (rw states_few at is)).0
-
-    same_band : band ≡ b
-    same_band = (answered_ok _ b band (rw states_few at is)).1
+    accepted = (answered_ok _ b band is).0
 
     abbrev lacks : Bool
-    lacks = lacks_place k b (min (length t.bands.now) 4_096) (take t.held t.bands.now)
+    lacks = lacks_place k b (min (length t.bands.now) 4_096) (bands_of t)
 
-    module _ (new : List (Band S)) (r : Result ℕ Refusal) (placed : Placed k band count t.bands.now new r) where
-      own : Placed k b t.held t.bands.now new r
-      own = subst (λ (c : Band S). Placed k c t.held t.bands.now new r) same_band (subst (λ (n : ℕ). Placed k band n t.bands.now new r) all_held placed)
+    module _ (new : Table S) (r : Result (Unit {0}) Refusal) (placed : Placed k band t new r) where
+      own : Placed k b t new r
+      own = subst (λ (c : Band S). Placed k c t new r) (answered_ok _ b band is).1 placed
 
     -- no place is free
-    pub not_placed : (new : List (Band S)) (f : Refusal) → Placed k band count t.bands.now new (Err f) → (new ≡ t.bands.now) × BandSet k t t b (Err f)
+    pub not_placed : (new : Table S) (f : Refusal) → Placed k band t new (Err f) → BandSet k t new b (Err f)
     not_placed new f placed = ⊎_elim full free (cases_Bool lacks)
       where
-        full : lacks ≡ true → (new ≡ t.bands.now) × BandSet k t t b (Err f)
+        full : lacks ≡ true → BandSet k t new b (Err f)
         full lacking =
-            let is_full : ◌≡◌ {A = Result ℕ Refusal} (Err f) (Err NoFreePlace) = rw lacking at (own new (Err f) placed).answer in
+            let is_full : ◌≡◌ {A = Result (Unit {0}) Refusal} (Err f) (Err NoFreePlace) = rw lacking at (own new (Err f) placed).answer in
             let same : f ≡ NoFreePlace = cc in
-            ((own new (Err f) placed).refused lacking, refuses f (rw (accepted, lacking, same)))
+            rw ((own new (Err f) placed).refused lacking) (refuses f (rw (accepted, lacking, same)))
 
-        free : lacks ≡ false → (new ≡ t.bands.now) × BandSet k t t b (Err f)
-        free room =
-            let not_full : ◌≡◌ {A = Result ℕ Refusal} (Err f) (Ok (length (with_band k b (take t.held t.bands.now)))) = rw room at (own new (Err f) placed).answer in
+        free : lacks ≡ false → BandSet k t new b (Err f)
+        free some =
+            let not_full : ◌≡◌ {A = Result (Unit {0}) Refusal} (Err f) (Ok tt) = rw some at (own new (Err f) placed).answer in
             let z : ◌≡◌ {A = ℕ} 0 1 = cc in
             absurd (omega arith)
 
-    module _ (new : List (Band S)) (n : ℕ) (placed : Placed k band count t.bands.now new (Ok n)) where
+    module _ (new : Table S) (placed : Placed k band t new (Ok tt)) where
       room : lacks ≡ false
       room = ⊎_elim
           (λ (lacking : lacks ≡ true).
-          let is_full : ◌≡◌ {A = Result ℕ Refusal} (Ok n) (Err NoFreePlace) = rw lacking at (own new (Ok n) placed).answer in
+          let is_full : ◌≡◌ {A = Result (Unit {0}) Refusal} (Ok tt) (Err NoFreePlace) = rw lacking at (own new (Ok tt) placed).answer in
           let z : ◌≡◌ {A = ℕ} 0 1 = cc in
           absurd (omega arith))
           (λ (free : lacks ≡ false). free)
           (cases_Bool lacks)
 
-      count_is : n ≡ length (with_band k b (take t.held t.bands.now))
-      count_is =
-          let is_ok : ◌≡◌ {A = Result ℕ Refusal} (Ok n) (Ok (length (with_band k b (take t.held t.bands.now)))) = rw room at (own new (Ok n) placed).answer in
-          cc
-
-      held_after : take n new ≡ with_band k b (take t.held t.bands.now)
-      held_after = ap (λ (c : ℕ). take c new) count_is ∙ (own new (Ok n) placed).puts room
-
       -- the band is in its place, and nothing else has changed but that a verdict lapsed
-      module _ (after : Table S) (bands : after.bands.now ≡ new) (ranks : after.ranks.now ≡ t.ranks.now) (held : after.held ≡ n) (states : after.states ≡ t.states) (start : after.start ≡ t.start) (checked : after.checked ≡ false) (kept : length new ≡ length t.bands.now) (bound : n ≤ length t.bands.now) where
+      module _ (after : Table S) (held : bands_of after ≡ bands_of new) (places : length after.bands.now ≡ length t.bands.now) (ranks : after.ranks.now ≡ t.ranks.now) (states : after.states ≡ t.states) (start : after.start ≡ t.start) (checked : after.checked ≡ false) where
         left_after : left_of after ≡ banded k (left_of t) b
         left_after =
-            let long : length after.bands.now ≡ length t.bands.now = ap length bands ∙ kept in
-            let all : take after.held after.bands.now ≡ with_band k b (take t.held t.bands.now) = (λ i. take (held i) (bands i)) ∙ held_after in
-            λ i. record { places = min (long i) 4_096; ranks = length (ranks i); states = states i; start = start i; held = all i; verdict = checked i }
+            let all : bands_of after ≡ with_band k b (bands_of t) = held ∙ (own new (Ok tt) placed).puts room in
+            λ i. record { places = min (places i) 4_096; ranks = length (ranks i); states = states i; start = start i; held = all i; verdict = checked i }
 
         pub placed_in : BandSet k t after b (Ok tt)
         placed_in =
@@ -178,7 +164,6 @@ module _ {S : Type 0} (k : Kind S) (t : Table S) (b : Band S) (sound : Sound k t
               refused = λ some. absurd (true≢false (sym some ∙ ap is_some none));
               sound = record {
                 proper = subst (Proper k) (sym left_after) (proper_after k (left_of t) b sound.proper made room);
-                within = omega (arith, held, bound, kept, ap length bands);
                 ranked = λ is. absurd (false≢true (sym checked ∙ is));
               };
             }

@@ -1,16 +1,19 @@
 -- What each call on a table answers and leaves.
-use Rattle.std.specs.Prelude.{◌≡◌, ℕ, ◌+◌, ◌-◌, ◌<◌, ◌≤◌, min, true, cond, List, length, take, is_some, Some, None, Ok, Err, Option, Result}
+use Rattle.std.specs.Prelude.{◌≡◌, ℕ, ◌+◌, ◌-◌, ◌<◌, min, true, cond, List, length, is_some, Some, None, Ok, Err, Option, Result}
 use Rattle.amounts.specs.Kinds.{Kind}
 use Rattle.amounts.specs.declared.bounds.Bounds.{Bounds}
 use Rattle.refusals.specs.declared.Refusal.{Refusal}
 use Rattle.refusals.specs.declared.Refusal.TheVariants.{NoStates, Standing}
 use Rattle.theory.specs.Rounds.{Ranks, removed_of, rounds_of}
 use Rattle.theory.specs.declared.reason.Reason.{Reason}
-use Rattle.tables.specs.Held.{key_of, bounds_of, band_in, is_held, both_nothing}
+use Rattle.tables.specs.Held.{key_of, bounds_of, band_in, is_held, both_nothing, model_of}
+use Rattle.tables.specs.Judging.{Orderly, Ranked}
 use Rattle.tables.specs.Left.{Left, Proper, answered, leaves, size_refusal, sized, no_states, set_refusal, banded, judged, question_refusal, model_in, rank_left, as_rank, reason_answer}
 use Rattle.tables.specs.Passes.{rank_in}
+use Rattle.tables.specs.Places.{bands_of}
 use Rattle.tables.specs.declared.band.Band.{Band}
 use Rattle.tables.specs.declared.table.Table.{Table}
+use Rattle.tables.specs.declared.tally.Tally.{Tally}
 use Rattle.tables.specs.declared.verdict.Verdict.{Verdict}
 
 -- what a table holds
@@ -20,14 +23,13 @@ left_of t = record {
   ranks = length t.ranks.now;
   states = t.states;
   start = t.start;
-  held = take t.held t.bands.now;
+  held = bands_of t;
   verdict = t.checked;
 }
 
 -- what open gives and every call keeps: the held bands are in order, and while a verdict is in force the rank places hold the ranks
 pub record Sound {S : Type 0} (k : Kind S) (t : Table S) : Type 0 where
   pub proper : Proper k (left_of t)
-  pub within : t.held ≤ length t.bands.now
   pub ranked : t.checked ≡ true → (u : ℕ) → u < t.states → rank_in t.ranks.now u ≡ rank_left k (left_of t) u
 
 -- the places are still those that the caller lent to open
@@ -61,6 +63,17 @@ pub record BandSet {S : Type 0} (k : Kind S) (before after : Table S) (b : Band 
   pub reads : set_refusal k (left_of before) b ≡ None → Reads k (left_of before).held (left_of after).held b
   pub refused : is_some (set_refusal k (left_of before) b) ≡ true → after ≡ before
   pub sound : Sound k after
+
+-- the rounds were run in the rank places, and nothing else has changed
+pub record RoundsRun {S : Type 0} (k : Kind S) (before after : Table S) (tally : Tally) : Type 0 where
+  pub ranked : Orderly before.states (bands_of before) → Ranked k (model_of k before.states (bands_of before)) after.ranks.now tally
+  pub lent : after.ranks.ghost_name ≡ before.ranks.ghost_name
+  pub places : length after.ranks.now ≡ length before.ranks.now
+  pub bands : after.bands ≡ before.bands
+  pub held : after.held ≡ before.held
+  pub states : after.states ≡ before.states
+  pub start : after.start ≡ before.start
+  pub checked : after.checked ≡ before.checked
 
 -- a verdict on what a table holds
 pub record VerdictOn {S : Type 0} (k : Kind S) (l : Left S) (v : Verdict) : Type 0 where

@@ -1,10 +1,8 @@
 -- The bands that a table holds, in ascending order of source, then target.
-use Rattle.std.specs.Prelude.{◌≡◌, ℕ, ◌+◌, ◌*◌, ◌<◌, ◌≤◌, min, Bool, true, false, cond, not, ◌&&◌, List, [], ◌∷◌, ◌++◌, length, take, Ok, Err, filter, Result, ◌==◌, ◌≢◌, nat_le, nat_lt, slice_index_or}
+use Rattle.std.specs.Prelude.{◌≡◌, ℕ, ◌+◌, ◌*◌, ◌<◌, ◌≤◌, Bool, true, false, cond, not, ◌&&◌, List, [], ◌∷◌, ◌++◌, length, Ok, Err, filter, Result, ◌==◌, ◌≢◌, nat_le, nat_lt, slice_index_or}
 use Rattle.std.specs.List.{AllByRecursion}
 use Rattle.amounts.specs.Kinds.{Kind}
 use Rattle.amounts.specs.declared.bounds.Bounds.{Bounds}
-use Rattle.refusals.specs.declared.Refusal.{Refusal}
-use Rattle.refusals.specs.declared.Refusal.TheVariants.{NoFreePlace}
 use Rattle.theory.specs.Models.{Model}
 use Rattle.tables.specs.declared.band.Band.{Band}
 
@@ -64,16 +62,6 @@ lacks_place k b places held = not (is_held held (key_of b)) && (not (both_nothin
 abbrev pub Found : {S : Type 0} → ℕ → List (Band S) → Result ℕ ℕ → Type 0
 Found {S} pair held (Ok p) = Position pair held p × (p < length held) × ((d : Band S) → key_of (slice_index_or held p d) ≡ pair)
 Found {S} pair held (Err p) = Position pair held p × ((d : Band S) → p < length held → (key_of (slice_index_or held p d) ≢ pair))
-
-abbrev pub FoundWithin : ℕ → Result ℕ ℕ → Type 0
-FoundWithin held (Ok p) = p < held
-FoundWithin held (Err p) = p ≤ held
-
--- b was put among the held bands, where there is a place for it
-pub record Placed {S : Type 0} (k : Kind S) (b : Band S) (held : ℕ) (before after : List (Band S)) (r : Result ℕ Refusal) : Type 0 where
-  pub answer : r ≡ cond (lacks_place k b (min (length before) 4_096) (take held before)) (Err NoFreePlace) (Ok (length (with_band k b (take held before))))
-  pub puts : lacks_place k b (min (length before) 4_096) (take held before) ≡ false → take (length (with_band k b (take held before))) after ≡ with_band k b (take held before)
-  pub refused : lacks_place k b (min (length before) 4_096) (take held before) ≡ true → after ≡ before
 
 -- the table as the definitions see it
 abbrev pub model_of : {S : Type 0} → Kind S → ℕ → List (Band S) → Model S

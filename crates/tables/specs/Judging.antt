@@ -7,7 +7,7 @@ use Rattle.theory.specs.Rounds.{everyone, falls_after, rank_within, rank_of, rem
 use Rattle.tables.specs.Held.{Ascending}
 use Rattle.tables.specs.Passes.{rank_in}
 use Rattle.tables.specs.declared.band.Band.{Band}
-use Rattle.tables.specs.declared.rounds.Tally.{Tally}
+use Rattle.tables.specs.declared.tally.Tally.{Tally}
 
 -- bands in order, between states of the table
 pub record Orderly {S : Type 0} (states : ℕ) (held : List (Band S)) : Type 0 where

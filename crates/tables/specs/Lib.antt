@@ -5,3 +5,4 @@ pub mod Judging
 pub mod Left
 pub mod Loading
 pub mod Passes
+pub mod Places

@@ -16,7 +16,6 @@ use Rattle.tables.specs.Left.{Left, answered, leaves, no_such_state, set_refusal
 use Rattle.tables.specs.declared.band.Band.{Band}
 use Rattle.tables.specs.declared.load.LoadFault.{LoadFault}
 use Rattle.tables.specs.declared.load.LoadFault.TheVariants.{Records, Table as OfTable}
-use Rattle.tables.specs.declared.load.Numbered.{Numbered}
 use Rattle.tables.specs.declared.table.Table.{Table}
 
 -- `amount_of` gives the amount that a record number stands for, if it stands for one
@@ -82,8 +81,3 @@ pub record Loads {S : Type 0} (k : Kind S) (amount_of : ℕ → Option S) (befor
   pub left : left_of after ≡ cond (before.states == 0) (left_of before) (load_of k amount_of (left_of before) bytes).left
   pub refused : before.states ≡ 0 → after ≡ before
   pub sound : Sound k after
-
--- a result whose fault has an index
-abbrev pub indexed : {T F : Type 0} → ℕ → Result T F → Result T (Numbered F)
-indexed index (Ok x) = Ok x
-indexed index (Err f) = Err (record { index = index; fault = f })

@@ -1,15 +1,25 @@
 -- One pass over the held bands of a source, by which the engine finds the reason that the definition asks for.
-use Rattle.std.specs.Prelude.{ℕ, Bool, cond, not, List, [], ◌∷◌, Some, None, Option, ◌==◌, slice_index}
+use Rattle.std.specs.Prelude.{ℕ, Bool, cond, not, List, [], ◌∷◌, Some, None, Option, ◌==◌, count_by, slice_index}
 use Rattle.std.specs.Option.{option_or}
 use Rattle.amounts.specs.Kinds.{Kind}
 use Rattle.theory.specs.Consistency.{first_reason}
 use Rattle.theory.specs.declared.reason.Reason.{Reason}
 use Rattle.theory.specs.declared.reason.Reason.TheVariants.{Lost}
+use Rattle.theory.specs.Rounds.{not_before}
 use Rattle.tables.specs.declared.band.Band.{Band}
+use Rattle.tables.specs.declared.reasons.Remaining.{Remaining}
 
 -- the rank of a state, 0 if it stands
 abbrev pub rank_in : List ℕ → ℕ → ℕ
 rank_in ranks t = slice_index ranks t
+
+-- the states that had not fallen before the round
+abbrev pub remaining : Remaining → ℕ → Bool
+remaining set = not_before (rank_in set.ranks.now) set.round
+
+-- how many stand, by their ranks
+abbrev pub standing_count : List ℕ → ℕ
+standing_count ranks = count_by (λ r. r == 0) ranks
 
 abbrev pub crossing : {S : Type 0} → Kind S → Band S → Option ℕ
 crossing k b = cond (k.at_most b.low b.high) None (Some b.target)

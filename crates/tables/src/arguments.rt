@@ -1,9 +1,8 @@
 // What is asked of the arguments of a call before anything is done.
-ghost use Rattle.std.specs.Prelude.{◌≡◌, min};
-ghost use Rattle.tables.specs.Left.{answered, band_asked, no_such_state, no_amount, no_band, no_question};
+ghost use Rattle.std.specs.Prelude.{◌≡◌, ◌≤◌};
+ghost use Rattle.tables.specs.Left.{answered, band_asked, no_states, no_such_state, no_amount, no_band};
 
 use crate::band::Band;
-use crate::table::STATES;
 use amounts::amount::Amount;
 use refusals::{Bound, Refusal};
 
@@ -18,12 +17,10 @@ pub(crate) struct Asked<K> {
 
 /// The band that is asked for, if a table with so many states can have it.
 pub(crate) fn checked_band<K: Amount>(states: usize, asked: Asked<K>) -> Result<Band<K>, Refusal>
-    ensures { result ≡ answered (no_band K.Amount.kind (min states 256) (band_asked asked)) (band_asked asked) }
+    requires { states ≤ 256 }
+    ensures { result ≡ answered (no_band K.Amount.kind states (band_asked asked)) (band_asked asked) }
 {
-    let states = states.min(STATES);
-    if states == 0 {
-        return Err(Refusal::NoStates);
-    }
+    check_sized(states)?;
     check_state(states, asked.source, 0)?;
     check_state(states, asked.target, 1)?;
     check_bound(asked.low, Bound::Low)?;
@@ -36,18 +33,14 @@ pub(crate) fn checked_band<K: Amount>(states: usize, asked: Asked<K>) -> Result<
     })
 }
 
-/// What is asked of a question about a state.
-pub(crate) fn question(states: usize, state: usize, checked: bool) -> Result<(), Refusal>
-    ensures { result ≡ answered (no_question states state checked) tt }
+pub(crate) fn check_sized(states: usize) -> Result<(), Refusal>
+    ensures { result ≡ answered (no_states states) tt }
 {
     if states == 0 {
-        return Err(Refusal::NoStates);
+        Err(Refusal::NoStates)
+    } else {
+        Ok(())
     }
-    check_state(states, state, 0)?;
-    if !checked {
-        return Err(Refusal::NoVerdict);
-    }
-    Ok(())
 }
 
 pub(crate) fn check_state(states: usize, state: usize, position: usize) -> Result<(), Refusal>

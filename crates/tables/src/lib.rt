@@ -8,4 +8,5 @@ pub mod places;
 mod reasons;
 mod rounds;
 pub mod table;
+mod tally;
 pub mod verdict;

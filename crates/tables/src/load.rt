@@ -5,10 +5,10 @@ ghost use Rattle.records.specs.Reading.{said};
 ghost use Rattle.refusals.specs.declared.Refusal.TheVariants.{NoAmount};
 ghost use Rattle.std.specs.Option.{ok_or};
 ghost use Rattle.tables.specs.Calls.{Lent, Sound};
-ghost use Rattle.tables.specs.Loading.{Accepts, Loads, indexed};
+ghost use Rattle.tables.specs.Loading.{Accepts, Loads};
 ghost use Rattle.tables.specs.declared.load.LoadFault.TheVariants.{Records, Table as OfTable};
 
-use crate::arguments::check_state;
+use crate::arguments::{Asked, check_sized, check_state};
 use crate::table::Table;
 use amounts::record_number::RecordNumber;
 use records::counts::Counts;
@@ -61,12 +61,7 @@ impl<'a, K: RecordNumber> Table<'a, K> {
         ensures loads { Sound K.Amount.kind self.old → Loads K.Amount.kind K.RecordNumber.amount_of self.old self.new records.now result }
         ensures lent { Lent self.old self.new }
     {
-        if self.states == 0 {
-            return Err(LoadFault::Table {
-                index: 0,
-                refusal: Refusal::NoStates,
-            });
-        }
+        check_sized(self.states).map_err(|fault| Numbered { index: 0, fault })?;
         self.load_records(records)
     }
 
@@ -78,10 +73,11 @@ impl<'a, K: RecordNumber> Table<'a, K> {
         let mut counts = Counts::none();
         'records: loop {
             let index = counts.bands + counts.names;
-            let Some(entry) = at_index(index, reader.next())? else {
+            let Some(entry) = reader.next().map_err(|fault| Numbered { index, fault })? else {
                 return Ok(counts);
             };
-            at_index(index, self.accept(&entry))?;
+            self.accept(&entry)
+                .map_err(|fault| Numbered { index, fault })?;
             counts = counts.with(&entry);
         }
     }
@@ -90,32 +86,31 @@ impl<'a, K: RecordNumber> Table<'a, K> {
         ensures accepts { Sound K.Amount.kind self.old → Accepts K.Amount.kind K.RecordNumber.amount_of self.old self.new (said entry.now) result }
         ensures lent { Lent self.old self.new }
     {
-        match entry {
+        match *entry {
             Record::Band {
                 source,
                 target,
                 low,
                 high,
-            } => self.set_numbers(usize::from(*source), usize::from(*target), *low, *high),
-            Record::Name { state, .. } => check_state(self.states, usize::from(*state), 0),
+            } => self.set_numbers(Asked {
+                source: usize::from(source),
+                target: usize::from(target),
+                low,
+                high,
+            }),
+            Record::Name { state, .. } => check_state(self.states, usize::from(state), 0),
         }
     }
 
-    fn set_numbers(
-        &mut self,
-        source: usize,
-        target: usize,
-        low: u32,
-        high: u32,
-    ) -> Result<(), Refusal>
-        ensures accepts { Sound K.Amount.kind self.old → Accepts K.Amount.kind K.RecordNumber.amount_of self.old self.new (band source target low high) result }
+    fn set_numbers(&mut self, asked: Asked<u32>) -> Result<(), Refusal>
+        ensures accepts { Sound K.Amount.kind self.old → Accepts K.Amount.kind K.RecordNumber.amount_of self.old self.new (band asked.source asked.target asked.low asked.high) result }
         ensures lent { Lent self.old self.new }
     {
-        check_state(self.states, source, 0)?;
-        check_state(self.states, target, 1)?;
-        let low: K = amount(low, Bound::Low)?;
-        let high: K = amount(high, Bound::High)?;
-        self.set(source, target, low, high)
+        check_state(self.states, asked.source, 0)?;
+        check_state(self.states, asked.target, 1)?;
+        let low: K = amount(asked.low, Bound::Low)?;
+        let high: K = amount(asked.high, Bound::High)?;
+        self.set(asked.source, asked.target, low, high)
     }
 }
 
@@ -124,14 +119,4 @@ fn amount<K: RecordNumber>(number: u32, bound: Bound) -> Result<K, Refusal>
     ensures { result ≡ ok_or (K.RecordNumber.amount_of number) (NoAmount bound) }
 {
     K::from_number(number).ok_or(Refusal::NoAmount { bound })
-}
-
-/// A result whose fault has the index of its record.
-fn at_index<T, F>(index: usize, res: Result<T, F>) -> Result<T, Numbered<F>>
-    ensures { result ≡ indexed index res }
-{
-    match res {
-        Ok(value) => Ok(value),
-        Err(fault) => Err(Numbered { index, fault }),
-    }
 }

@@ -1,118 +1,79 @@
 // The caller's band places: held bands are searched, put in and taken out in place.
-ghost use Rattle.std.specs.Prelude.{◌≡◌, ◌+◌, ◌-◌, ◌<◌, ◌≤◌, min, length, take, IfOk};
+ghost use Rattle.std.specs.Prelude.{◌≡◌, ◌+◌, ◌<◌, ◌≤◌, length};
 ghost use Rattle.std.specs.List.{insert, remove};
-ghost use Rattle.tables.specs.Held.{key_of, bounds_of, both_nothing, Ascending, Position, Found, FoundWithin, Placed};
+ghost use Rattle.std.specs.List.Sorted.{IsSearchInRange};
+ghost use Rattle.tables.specs.Held.{Ascending, Found, bounds_of, both_nothing, key_of};
 
-use crate::band::{Band, pair_of};
+use crate::band::Band;
+use crate::table::Table;
 use amounts::amount::Amount;
 use refusals::Refusal;
 
 /// At most so many band places are used.
 pub const BAND_PLACES: usize = 4_096;
 
-/// Puts a band among the first `held` ones in place of that of its pair, and answers how many are then held.
-pub(crate) fn place<K: Amount>(
-    bands: &mut [Band<K>],
-    held: usize,
-    band: Band<K>,
-) -> Result<usize, Refusal>
-    requires { held ≤ length bands.old }
-    ensures bound { IfOk result (λ n. n ≤ length bands.old) }
-    ensures placed { Ascending (take held bands.old) → Placed K.Amount.kind band held bands.old bands.new result }
-{
-    match (find(bands, held, &band), is_nothing(&band)) {
-        (Ok(at), true) => {
-            take_out(bands, held, at);
-            Ok(held - 1)
-        }
-        (Ok(at), false) => {
-            bands[at] = band;
-            Ok(held)
-        }
-        (Err(_), true) => Ok(held),
-        (Err(at), false) => {
-            if usable(bands.len()) <= held {
-                return Err(Refusal::NoFreePlace);
+impl<'a, K: Amount> Table<'a, K> {
+    ghost use Rattle.tables.specs.Places.{KeepsRest, Placed, bands_of};
+
+    pub(crate) fn held_bands(&self) -> &[Band<K>]
+        ensures { result.now ≡ bands_of self.now }
+    {
+        &self.bands[..self.held]
+    }
+
+    /// Puts a band among the held ones in place of that of its pair.
+    pub(crate) fn place(&mut self, band: Band<K>) -> Result<(), Refusal>
+        ensures placed { Ascending (bands_of self.old) → Placed K.Amount.kind band self.old self.new result }
+        ensures rest { KeepsRest self.old self.new }
+    {
+        match (self.find(&band), is_nothing(&band)) {
+            (Ok(at), true) => self.take_out(at),
+            (Ok(at), false) => self.bands[at] = band,
+            (Err(_), true) => {}
+            (Err(at), false) => {
+                if self.bands.len().min(BAND_PLACES) <= self.held {
+                    return Err(Refusal::NoFreePlace);
+                }
+                self.put_in(at, band);
             }
-            put_in(bands, held, at, band);
-            Ok(held + 1)
         }
+        Ok(())
     }
-}
 
-/// How many of so many band places are used.
-fn usable(places: usize) -> usize
-    ensures { result ≡ min places 4096 }
-{
-    places.min(BAND_PLACES)
-}
-
-/// Where the pair of a band stands among the first `held` bands, or else would stand.
-fn find<K: Amount>(bands: &mut [Band<K>], held: usize, band: &Band<K>) -> Result<usize, usize>
-    requires { held ≤ length bands.old }
-    ensures same { bands.new ≡ bands.old }
-    ensures found { Ascending (take held bands.old) → Found (key_of band.now) (take held bands.old) result }
-    ensures within { FoundWithin held result }
-{
-    let whole: &[Band<K>] = bands;
-    let held_bands = &whole[..held];
-    let pair = pair_of(band.source, band.target);
-    let at = position(held_bands, pair);
-    if at < held {
-        let there = held_bands[at];
-        if pair_of(there.source, there.target) == pair {
-            return Ok(at);
-        }
+    /// Where the pair of a band stands among the held bands, or else would stand.
+    fn find(&self, band: &Band<K>) -> Result<usize, usize>
+        ensures within { IsSearchInRange result self.now.held }
+        ensures found { Ascending (bands_of self.now) → Found (key_of band.now) (bands_of self.now) result }
+    {
+        self.held_bands()
+            .binary_search_by_key(&band.pair(), |there| there.pair())
     }
-    Err(at)
+
+    /// Puts a band in at `at`, and moves those after it one place up.
+    fn put_in(&mut self, at: usize, band: Band<K>)
+        requires room { self.old.held < length self.old.bands.now }
+        requires within { at ≤ self.old.held }
+        ensures put { bands_of self.new ≡ insert (bands_of self.old) at band }
+        ensures rest { KeepsRest self.old self.new }
+    {
+        self.bands.copy_within(at..self.held, at + 1);
+        self.bands[at] = band;
+        self.held += 1;
+    }
+
+    /// Takes out the band at `at`, and moves those after it one place down.
+    fn take_out(&mut self, at: usize)
+        requires there { at < self.old.held }
+        ensures taken { bands_of self.new ≡ remove (bands_of self.old) at }
+        ensures rest { KeepsRest self.old self.new }
+    {
+        self.bands.copy_within(at + 1..self.held, at);
+        self.held -= 1;
+    }
 }
 
 fn is_nothing<K: Amount>(band: &Band<K>) -> bool
     ensures { result ≡ both_nothing K.Amount.kind (bounds_of band.now) }
 {
     band.low.at_most(K::nothing()) & band.high.at_most(K::nothing())
-}
-
-/// Where a pair stands among the held bands, or would stand.
-pub(crate) fn position<K: Copy>(held: &[Band<K>], pair: u32) -> usize
-    ensures within { result ≤ length held.now }
-    ensures found { Ascending held.now → Position pair held.now result }
-{
-    let mut low = 0;
-    let mut high = held.len();
-    'halves: while low < high {
-        let middle = low + (high - low) / 2;
-        let band = held[middle];
-        if pair_of(band.source, band.target) < pair {
-            low = middle + 1;
-        } else {
-            high = middle;
-        }
-    }
-    low
-}
-
-/// Puts a band in at `at`, and moves those after it one place up.
-pub(crate) fn put_in<K: Copy>(bands: &mut [Band<K>], held: usize, at: usize, band: Band<K>)
-    requires room { held < length bands.old }
-    requires within { at ≤ held }
-    ensures { take (held + 1) bands.new ≡ insert (take held bands.old) at band }
-{
-    let mut carried = band;
-    for i in at..held + 1 {
-        let next = bands[i];
-        bands[i] = carried;
-        carried = next;
-    }
-}
-
-/// Takes out the band at `at`, and moves those after it one place down.
-pub(crate) fn take_out<K: Copy>(bands: &mut [Band<K>], held: usize, at: usize)
-    requires within { held ≤ length bands.old }
-    requires there { at < held }
-    ensures { take (held - 1) bands.new ≡ remove (take held bands.old) at }
-{
-    for i in at..held - 1 {
-        bands[i] = bands[i + 1];
-    }
 }

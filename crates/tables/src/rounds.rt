@@ -1,39 +1,28 @@
 // The rounds in which states fall.
-ghost use Rattle.std.specs.Prelude.{◌≡◌, ℕ, suc, ◌≤◌, ◌&&◌, length, take, is_some, ◌==◌};
+ghost use Rattle.std.specs.Prelude.{◌≡◌, ℕ, suc, ◌+◌, ◌<◌, ◌≤◌, ◌&&◌, length, IsTrue, is_some, ◌==◌};
 ghost use Rattle.tables.specs.Held.{model_of};
 ghost use Rattle.tables.specs.Judging.{Orderly, RanksAfter, Round, Ranked};
-ghost use Rattle.tables.specs.Passes.{rank_in};
+ghost use Rattle.tables.specs.Passes.{rank_in, standing_count};
 ghost use Rattle.theory.specs.Consistency.{reason_of};
 ghost use Rattle.theory.specs.Rounds.{not_before};
 
 use crate::band::Band;
-use crate::reasons::{rank_at, reason_of};
+use crate::reasons::{Remaining, rank_at, reason_of};
+use crate::tally::Tally;
 use amounts::amount::Amount;
 
-/// How many states fell, and in how many rounds.
-#[derive(Clone, Copy)]
-pub(crate) struct Tally {
-    pub removed: usize,
-    pub rounds: usize,
-}
-
-/// Runs rounds until no state falls, and writes each state's rank. At first all ranks are 0.
-pub(crate) fn run_rounds<K: Amount>(
-    bands: &mut [Band<K>],
-    held: usize,
-    states: usize,
-    ranks: &mut [u16],
-) -> Tally
-    requires held { held ≤ length bands.old }
-    requires room { states ≤ length ranks.old }
-    requires few { states ≤ 256 }
-    ensures same { bands.new ≡ bands.old }
-    ensures ranked { Orderly states (take held bands.old) → RanksAfter K.Amount.kind (model_of K.Amount.kind states (take held bands.old)) 0 ranks.old → Ranked K.Amount.kind (model_of K.Amount.kind states (take held bands.old)) ranks.new result }
+/// Runs rounds until no state falls, and writes the rank of each state, which has one place.
+pub(crate) fn run_rounds<K: Amount>(held: &[Band<K>], ranks: &mut [u16]) -> Tally
+    requires few { length ranks.old ≤ 256 }
+    ensures bounded { result.removed ≤ length ranks.old }
+    ensures ranked { Orderly (length ranks.old) held.now → Ranked K.Amount.kind (model_of K.Amount.kind (length ranks.old) held.now) ranks.new result }
 {
+    ranks.fill(0);
+    let states = ranks.len();
     let mut removed = 0;
     // In each round but the last a state falls: there are no more rounds than states.
     for rounds in 0..states {
-        let fallen = run_round(bands, held, states, ranks, (rounds + 1) as u16);
+        let fallen = run_round(held, ranks, (rounds + 1) as u16);
         if fallen == 0 {
             return Tally { removed, rounds };
         }
@@ -46,23 +35,16 @@ pub(crate) fn run_rounds<K: Amount>(
 }
 
 /// Runs one round and answers how many states fell in it. A rank that it writes still counts as not fallen before it.
-fn run_round<K: Amount>(
-    bands: &mut [Band<K>],
-    held: usize,
-    states: usize,
-    ranks: &mut [u16],
-    round: u16,
-) -> usize
-    requires held { held ≤ length bands.old }
-    requires room { states ≤ length ranks.old }
-    requires few { states ≤ 256 }
-    ensures same { bands.new ≡ bands.old }
-    ensures bound { result ≤ states }
-    ensures round { Orderly states (take held bands.old) → (r' : ℕ) → round ≡ suc r' → RanksAfter K.Amount.kind (model_of K.Amount.kind states (take held bands.old)) r' ranks.old → Round K.Amount.kind (model_of K.Amount.kind states (take held bands.old)) r' ranks.new result }
+fn run_round<K: Amount>(held: &[Band<K>], ranks: &mut [u16], round: u16) -> usize
+    requires few { length ranks.old ≤ 256 }
+    requires some { 0 < round }
+    ensures fell { result + standing_count ranks.new ≡ standing_count ranks.old }
+    ensures round { Orderly (length ranks.old) held.now → (r' : ℕ) → round ≡ suc r' → RanksAfter K.Amount.kind (model_of K.Amount.kind (length ranks.old) held.now) r' ranks.old → Round K.Amount.kind (model_of K.Amount.kind (length ranks.old) held.now) r' ranks.new result }
 {
     let mut fallen = 0;
-    for t in 0..states {
-        if falls(bands, held, t, ranks, round) {
+    // The whole of `ranks` is read at each state, so no iterator may hold it.
+    for t in 0..ranks.len() {
+        if falls(held, t, ranks, round) {
             ranks[t] = round;
             fallen += 1;
         }
@@ -71,17 +53,11 @@ fn run_round<K: Amount>(
 }
 
 /// Whether a state falls in a round: it has no rank yet, and has a reason to fall.
-fn falls<K: Amount>(
-    bands: &mut [Band<K>],
-    held: usize,
-    state: usize,
-    ranks: &[u16],
-    round: u16,
-) -> bool
-    requires held { held ≤ length bands.old }
-    requires few { state ≤ 256 }
-    ensures same { bands.new ≡ bands.old }
-    ensures falls { (states : ℕ) → Orderly states (take held bands.old) → result ≡ (rank_in ranks.now state == 0 && is_some (reason_of K.Amount.kind (model_of K.Amount.kind states (take held bands.old)) (not_before (rank_in ranks.now) round) state)) }
+fn falls<K: Amount>(held: &[Band<K>], state: usize, ranks: &[u16], round: u16) -> bool
+    requires few { state < 65536 }
+    ensures unranked { IsTrue result → rank_in ranks.now state ≡ 0 }
+    ensures falls { (states : ℕ) → Orderly states held.now → result ≡ (rank_in ranks.now state == 0 && is_some (reason_of K.Amount.kind (model_of K.Amount.kind states held.now) (not_before (rank_in ranks.now) round) state)) }
 {
-    rank_at(ranks, state) == 0 && reason_of(bands, held, state as u16, ranks, round).is_some()
+    rank_at(ranks, state) == 0
+        && reason_of(held, state as u16, &Remaining { ranks, round }).is_some()
 }

@@ -1,15 +1,12 @@
 // The table: bands between states, over memory that the caller lends.
-ghost use Rattle.std.specs.Prelude.{◌≡◌, ℕ, ◌<◌, ◌≤◌, true, ◌||◌, ◌++◌, length, take, drop, Ok, ◌==◌, nat_lt};
-ghost use Rattle.tables.specs.Calls.{left_of, Sound, Lent, Sized, BandSet, Checked, RankAnswer, ReasonAnswer};
-ghost use Rattle.tables.specs.Passes.{rank_in};
-ghost use Rattle.tables.specs.Left.{opened, band_asked, reason_left};
+ghost use Rattle.std.specs.Prelude.{◌≡◌, ◌<◌, ◌≤◌, ◌||◌, length, Ok, ◌==◌, nat_lt};
 
-use crate::arguments::{Asked, checked_band, question};
+use crate::arguments::{Asked, check_sized, check_state, checked_band};
 use crate::band::Band;
-use crate::places::place;
-use crate::reasons::{rank_at, reason_of};
+use crate::reasons::{Remaining, rank_at, reason_of};
 use crate::rounds::run_rounds;
-use crate::verdict::{Verdict, as_rank, verdict_of};
+use crate::tally::Tally;
+use crate::verdict::{Verdict, as_rank};
 use amounts::amount::Amount;
 use refusals::Refusal;
 use theory::reason::Reason;
@@ -17,7 +14,8 @@ use theory::reason::Reason;
 /// A table has at most so many states.
 pub const STATES: usize = 256;
 
-/// A table over the caller's band places and rank places.
+/// A table over the caller's band places and rank places. Before the first size it has no states.
+/// That its bands are in order and its ranks right is no ghost field: they are not while they are written.
 #[derive(Drop)]
 pub struct Table<'a, K> {
     pub(crate) bands: &'a mut [Band<K>],
@@ -26,9 +24,17 @@ pub struct Table<'a, K> {
     pub(crate) states: usize,
     pub(crate) start: usize,
     pub(crate) checked: bool,
+    ghost within: { held ≤ length bands.now },
+    ghost few: { states ≤ 256 },
+    ghost room: { states ≤ length ranks.now },
 }
 
 impl<'a, K: Amount> Table<'a, K> {
+    ghost use Rattle.std.specs.Prelude.{true};
+    ghost use Rattle.tables.specs.Calls.{left_of, Sound, Lent, Sized, BandSet, Checked, RoundsRun, RankAnswer, ReasonAnswer};
+    ghost use Rattle.tables.specs.Passes.{rank_in};
+    ghost use Rattle.tables.specs.Left.{answered, as_rank, opened, band_asked, question_refusal, reason_left};
+
     /// A table without states, bands or verdict. It uses at most 4,096 band places.
     pub fn open(bands: &'a mut [Band<K>], ranks: &'a mut [u16]) -> Table<'a, K>
         ensures left { left_of result ≡ opened (length bands.old) (length ranks.old) }
@@ -82,8 +88,7 @@ impl<'a, K: Amount> Table<'a, K> {
         ensures lent { Lent self.old self.new }
     {
         let band = checked_band(self.states, asked)?;
-        let held = self.held.min(self.bands.len());
-        self.held = place(self.bands, held, band)?;
+        self.place(band)?;
         self.checked = false;
         Ok(())
     }
@@ -93,57 +98,82 @@ impl<'a, K: Amount> Table<'a, K> {
         ensures checked { Sound K.Amount.kind self.old → Checked K.Amount.kind self.old self.new result }
         ensures lent { Lent self.old self.new }
     {
-        if self.states == 0 {
-            return Err(Refusal::NoStates);
-        }
+        check_sized(self.states)?;
         Ok(self.judge())
     }
 
-    /// Runs the rounds over a copy of the ranks, since no call can get both lent slices.
     fn judge(&mut self) -> Verdict
         ensures judged { Sound K.Amount.kind self.old → 0 < self.old.states → Checked K.Amount.kind self.old self.new (Ok result) }
         ensures lent { Lent self.old self.new }
     {
-        let mut ranks = [0u16; STATES];
-        let states = self.states.min(STATES).min(self.ranks.len());
-        let held = self.held.min(self.bands.len());
-        let tally = run_rounds(self.bands, held, states, &mut ranks);
-        write_ranks(self.ranks, &ranks, states);
+        let start = self.start;
+        let tally = self.run_rounds();
         self.checked = true;
-        verdict_of(self.states, tally, as_rank(rank_at(&ranks, self.start)))
+        Verdict {
+            states: self.states,
+            removed: tally.removed,
+            rounds: tally.rounds,
+            start: self.rank_of(start),
+        }
+    }
+
+    /// Runs the rounds over a copy of the ranks, since no call can take one lent slice for reading and the other for writing.
+    fn run_rounds(&mut self) -> Tally
+        ensures bounded { result.removed ≤ self.old.states }
+        ensures ran { RoundsRun K.Amount.kind self.old self.new result }
+    {
+        let mut copy = [0u16; STATES];
+        let ranks = &mut copy[..self.states];
+        let tally = run_rounds(self.held_bands(), ranks);
+        self.ranks[..self.states].copy_from_slice(ranks);
+        tally
     }
 
     /// The rank of a state, or none if it stands.
-    pub fn rank(&mut self, state: usize) -> Result<Option<u16>, Refusal>
-        ensures answer { Sound K.Amount.kind self.old → RankAnswer K.Amount.kind (left_of self.old) state result }
-        ensures same { self.new ≡ self.old }
+    pub fn rank(&self, state: usize) -> Result<Option<u16>, Refusal>
+        ensures { Sound K.Amount.kind self.now → RankAnswer K.Amount.kind (left_of self.now) state result }
     {
-        question(self.states, state, self.checked)?;
-        Ok(as_rank(read_rank(self.ranks, state)))
+        self.question(state)?;
+        Ok(self.rank_of(state))
     }
 
     /// Why a ranked state fell.
-    pub fn reason(&mut self, state: usize) -> Result<Reason, Refusal>
-        ensures answer { Sound K.Amount.kind self.old → ReasonAnswer K.Amount.kind (left_of self.old) state result }
-        ensures same { self.new ≡ self.old }
+    pub fn reason(&self, state: usize) -> Result<Reason, Refusal>
+        ensures { Sound K.Amount.kind self.now → ReasonAnswer K.Amount.kind (left_of self.now) state result }
     {
-        question(self.states, state, self.checked)?;
+        self.question(state)?;
         self.why(state).ok_or(Refusal::Standing)
     }
 
-    /// Judges a ranked state once more, by a copy of the ranks, since no call can get both lent slices.
-    fn why(&mut self, state: usize) -> Option<Reason>
-        ensures why { Sound K.Amount.kind self.old → self.old.checked ≡ true → state < self.old.states → result ≡ reason_left K.Amount.kind (left_of self.old) state }
-        ensures same { self.new ≡ self.old }
+    /// What is asked of a question about a state.
+    fn question(&self, state: usize) -> Result<(), Refusal>
+        ensures { result ≡ answered (question_refusal (left_of self.now) state) tt }
     {
-        let mut ranks = [0u16; STATES];
-        read_ranks(self.ranks, &mut ranks);
-        let rank = rank_at(&ranks, state);
-        if rank == 0 {
-            return None;
+        check_sized(self.states)?;
+        check_state(self.states, state, 0)?;
+        if !self.checked {
+            return Err(Refusal::NoVerdict);
         }
-        let held = self.held.min(self.bands.len());
-        reason_of(self.bands, held, state as u16, &ranks, rank)
+        Ok(())
+    }
+
+    fn rank_of(&self, state: usize) -> Option<u16>
+        ensures { result ≡ as_rank (rank_in self.now.ranks.now state) }
+    {
+        as_rank(rank_at(self.ranks, state))
+    }
+
+    /// Judges a ranked state once more.
+    fn why(&self, state: usize) -> Option<Reason>
+        requires inside { state < self.now.states }
+        ensures { Sound K.Amount.kind self.now → self.now.checked ≡ true → result ≡ reason_left K.Amount.kind (left_of self.now) state }
+    {
+        let round = self.rank_of(state)?;
+        let set = Remaining {
+            ranks: self.ranks,
+            round,
+        };
+        reason_of(self.held_bands(), state as u16, &set)
     }
 }
 
@@ -152,30 +182,4 @@ fn is_no_count(states: usize, rank_places: usize) -> bool
     ensures { result ≡ (states == 0 || (nat_lt 256 states || nat_lt rank_places states)) }
 {
     (states == 0) | (STATES < states) | (rank_places < states)
-}
-
-/// Writes the first ranks.
-fn write_ranks(places: &mut [u16], ranks: &[u16], count: usize)
-    requires places { count ≤ length places.old }
-    requires ranks { count ≤ length ranks.now }
-    ensures { places.new ≡ take count ranks.now ++ drop count places.old }
-{
-    places[..count].copy_from_slice(&ranks[..count]);
-}
-
-/// The rank of a state, 0 if it stands. It takes the places for writing, since only so can a table lend them.
-fn read_rank(places: &mut [u16], state: usize) -> u16
-    ensures rank { result ≡ rank_in places.old state }
-    ensures same { places.new ≡ places.old }
-{
-    rank_at(places, state)
-}
-
-/// Reads as many ranks as there is room for. It takes the places for writing, since only so can a table lend them.
-fn read_ranks(places: &mut [u16], ranks: &mut [u16])
-    ensures same { places.new ≡ places.old }
-    ensures read { (t : ℕ) → t < length places.old → t < length ranks.old → rank_in ranks.new t ≡ rank_in places.old t }
-{
-    let count = places.len().min(ranks.len());
-    write_ranks(ranks, places, count);
 }

@@ -2,9 +2,7 @@
 use Rattle.std.proofs.Common.{ℕ, ◌≤◌, List, length, ap, ◌∙◌, subst, arith}
 use Rattle.amounts.specs.declared.shares.Share.{Share}
 use Rattle.tables.specs.Left.{Left}
-use Rattle.tables.specs.declared.table.Table.{Table}
 use Rattle.text.specs.Puts.{Put}
-use Rattle.tables.specs.Calls.{left_of}
 use Rattle.reports.proofs.Runs.{in_force, text_of_lines, text_of_stop}
 use Rattle.reports.proofs.report.put_report.Goals as goal
 
@@ -22,13 +20,12 @@ pub returns-in-Ok : goal.returns-in-Ok
 returns-in-Ok c =
     let ran = c.in-Ok.ensures.ran _ _ c.requires.sound c.requires.opened in
     let text = text_of_lines c.args.table.now c.args.records.now ran in
-    let same = c.put_lines.ensures.same in
     record {
       writes = subst (λ (ys : List ℕ). Put c.args.text.now 0 ys c.put_lines.new.text c.put_lines.result) text c.put_lines.ensures.writes;
       short = subst (λ (ys : List ℕ). length ys ≤ 4_096) text c.put_lines.ensures.short;
-      left = ap (λ (t : Table Share). left_of t) same ∙ ran.left;
-      sound = rw same ran.sound;
-      lent = rw same c.ranked.ensures.lent;
+      left = ran.left;
+      sound = ran.sound;
+      lent = c.ranked.ensures.lent;
     }
 
 pub returns-in-Err : goal.returns-in-Err

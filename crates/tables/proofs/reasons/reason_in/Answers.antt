@@ -1,17 +1,16 @@
 -- `reason_in`: one band more, a lost target, and the end of the pass.
 use Rattle.std.proofs.Common.{◌+◌, drop, sym, ◌∙◌}
-use Rattle.tables.specs.Passes.{rank_in}
-use Rattle.theory.specs.Rounds.{not_before}
+use Rattle.tables.specs.Passes.{remaining}
 use Rattle.tables.proofs.Turns as turns
 use Rattle.tables.proofs.reasons.reason_in.Goals as goal
-use Rattle.tables.proofs.reasons.reason_in.Goals.{then-not_before, else-not_before+else-not-at_most, else-loop-band-test, then-loop-band-test+then-band-source}
+use Rattle.tables.proofs.reasons.reason_in.Goals.{then-contains, else-contains+else-not-at_most, else-loop-band-test, then-loop-band-test+then-band-source}
 
 pub returns-then-not-at_most : goal.returns-then-not-at_most
 returns-then-not-at_most g c =
     let k = g.K.Amount.kind in
-    let x = not_before (rank_in c.args.ranks.now) c.args.round in
+    let x = remaining c.args.set.now in
     let next = turns.next k x c.args.source c.loop-band.crossed c.loop-band.low c.loop-band.high c.args.part.now c.loop-band.band-index c.band-item.result c.loop-band-test.true c.band-item.is in
-    let out = sym c.if-not_before.ensures in
+    let out = sym c.if-contains.ensures in
     let some = rw c.nothing.ensures at (sym c.if-not-at_most.ensures) in
     rw c.from.ensures
     (sym (turns.lost k x c.args.source c.loop-band.crossed c.loop-band.low c.loop-band.high c.band-item.result (drop (c.loop-band.band-index + 1) c.args.part.now) c.if-band-source.false out some)
@@ -20,24 +19,24 @@ returns-then-not-at_most g c =
 pub loop-band-preserved : goal.loop-band-preserved
 loop-band-preserved g c =
     let k = g.K.Amount.kind in
-    let x = not_before (rank_in c.args.ranks.now) c.args.round in
+    let x = remaining c.args.set.now in
     let next = turns.next k x c.args.source c.loop-band.crossed c.loop-band.low c.loop-band.high c.args.part.now c.loop-band.band-index c.band-item.result c.loop-band-test.true c.band-item.is in
     let later = drop (c.loop-band.band-index + 1) c.args.part.now in
-    elim c.if-not_before.branch [
-      | then-not_before w ↦
+    elim c.if-contains.branch [
+      | then-contains w ↦
           rw (w.crossed-is, w.low-is, w.high-is, w.or-crossed.ensures, w.crossing.ensures, w.total-low.ensures, w.total-high.ensures)
-          (sym (turns.inside k x c.args.source c.loop-band.crossed c.loop-band.low c.loop-band.high c.band-item.result later c.if-band-source.false (sym w.if-not_before.ensures))
+          (sym (turns.inside k x c.args.source c.loop-band.crossed c.loop-band.low c.loop-band.high c.band-item.result later c.if-band-source.false (sym w.if-contains.ensures))
           ∙ sym next ∙ c.loop-band.invariant)
-      | else-not_before+else-not-at_most w ↦
+      | else-contains+else-not-at_most w ↦
           rw (w.crossed-is, w.low-is, w.high-is)
-          (sym (turns.outside k x c.args.source c.loop-band.crossed c.loop-band.low c.loop-band.high c.band-item.result later c.if-band-source.false (sym w.if-not_before.ensures) (rw w.nothing.ensures at (sym w.if-not-at_most.ensures)))
+          (sym (turns.outside k x c.args.source c.loop-band.crossed c.loop-band.low c.loop-band.high c.band-item.result later c.if-band-source.false (sym w.if-contains.ensures) (rw w.nothing.ensures at (sym w.if-not-at_most.ensures)))
           ∙ sym next ∙ c.loop-band.invariant)
     ]
 
 pub returns : goal.returns
 returns g c =
     let k = g.K.Amount.kind in
-    let x = not_before (rank_in c.args.ranks.now) c.args.round in
+    let x = remaining c.args.set.now in
     c.ended.ensures
     ∙ elim c.loop-band-test.branch [
       | else-loop-band-test w ↦

@@ -1,5 +1,5 @@
 -- `put`: refused arguments, no free place, and a band in its place.
-use Rattle.std.proofs.Common.{◌≡◌, refl, arith}
+use Rattle.std.proofs.Common.{refl, ap}
 use Rattle.std.proofs.lemmas.Result.{err_from_is_err_and}
 use Rattle.tables.specs.Left.{band_asked}
 use Rattle.tables.proofs.Setting as setting
@@ -13,23 +13,21 @@ returns-in_err-band g c = record {
   lent = record { bands = refl; ranks = refl };
 }
 
-pub returns-in_err-self : goal.returns-in_err-self
-returns-in_err-self g c = record {
+pub returns-in_err-place : goal.returns-in_err-place
+returns-in_err-place g c = record {
   put = λ sound.
-      let refusal = err_from_is_err_and c.from_residual-in_err-self.result c.from_residual-in_err-self.ensures.1 in
-      let all : c.min-held.result ≡ c.args.self.now.held = omega (arith, c.min-held.ensures, sound.within) in
-      let placed = c.in_err-self.ensures.placed (rw all sound.proper.orderly.order) in
-      let same = setting.not_placed g.K.Amount.kind c.args.self.now (band_asked c.args.asked) sound c.in_ok-band.band c.in_ok-band.ensures c.min-held.result all c.place.new.bands c.in_err-self.field-0.0 placed in
-      rw (refusal.1, refusal.2, same.0) same.1;
-  lent = record { bands = refl; ranks = refl };
+      let refusal = err_from_is_err_and c.from_residual-in_err-place.result c.from_residual-in_err-place.ensures.1 in
+      rw (refusal.1, refusal.2)
+      (setting.not_placed g.K.Amount.kind c.args.self.now (band_asked c.args.asked) sound c.in_ok-band.band c.in_ok-band.ensures c.place.new.self c.in_err-place.field-0.0 (c.in_err-place.ensures.placed sound.proper.orderly.order));
+  lent = record { bands = c.place.ensures.rest.lent; ranks = ap (λ r. r.ghost_name) c.place.ensures.rest.ranks };
 }
 
 pub returns : goal.returns
-returns g c = record {
-  put = λ sound.
-      let all : c.min-held.result ≡ c.args.self.now.held = omega (arith, c.min-held.ensures, sound.within) in
-      let placed = c.in_ok-self.ensures.placed (rw all sound.proper.orderly.order) in
-      setting.placed_in g.K.Amount.kind c.args.self.now (band_asked c.args.asked) sound c.in_ok-band.band c.in_ok-band.ensures c.min-held.result all c.place.new.bands c.in_ok-self.field-0 placed
-      _ refl refl refl refl refl refl c.place.auto.bands c.in_ok-self.ensures.bound;
-  lent = record { bands = refl; ranks = refl };
-}
+returns g c =
+    let beside = c.place.ensures.rest in
+    record {
+      put = λ sound.
+          setting.placed_in g.K.Amount.kind c.args.self.now (band_asked c.args.asked) sound c.in_ok-band.band c.in_ok-band.ensures c.place.new.self (c.in_ok-place.ensures.placed sound.proper.orderly.order)
+          _ refl beside.places (ap (λ r. r.now) beside.ranks) beside.states beside.start refl;
+      lent = record { bands = beside.lent; ranks = ap (λ r. r.ghost_name) beside.ranks };
+    }
