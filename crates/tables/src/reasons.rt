@@ -5,7 +5,7 @@ ghost use Rattle.tables.specs.Judging.{Orderly};
 ghost use Rattle.tables.specs.Passes.{rank_in, remaining, crossing, ended, passed};
 ghost use Rattle.theory.specs.Consistency.{reason_of};
 
-use crate::band::{Band, pair_of};
+use crate::band::Band;
 use amounts::amount::Amount;
 use theory::reason::Reason;
 
@@ -33,8 +33,7 @@ pub(crate) fn reason_of<K: Amount>(
 ) -> Option<Reason>
     ensures { (states : ℕ) → Orderly states held.now → result ≡ reason_of K.Amount.kind (model_of K.Amount.kind states held.now) (remaining set.now) source }
 {
-    let pair = pair_of(source, 0);
-    let first = held.partition_point(|band| band.pair() < pair);
+    let first = held.partition_point(|band| band.source < source);
     reason_in(&held[first..], source, set)
 }
 
