@@ -1,5 +1,5 @@
 // The caller's band places: held bands are searched, put in and taken out in place.
-ghost use Rattle.std.specs.Prelude.{◌≡◌, ◌+◌, ◌<◌, ◌≤◌, length};
+ghost use Rattle.std.specs.Prelude.{◌≡◌, ◌+◌, ◌<◌, ◌≤◌, min, length, nat_le};
 ghost use Rattle.std.specs.List.{insert, remove};
 ghost use Rattle.std.specs.List.Sorted.{IsSearchInRange};
 ghost use Rattle.tables.specs.Held.{Ascending, Found, HasSmallTargets, bounds_of, both_nothing, key_of};
@@ -21,6 +21,12 @@ impl<'a, K: Amount> Table<'a, K> {
         &self.bands[..self.held]
     }
 
+    fn is_full(&self) -> bool
+        ensures { result ≡ nat_le (min (length self.now.bands.now) 4096) self.now.held }
+    {
+        self.bands.len().min(BAND_PLACES) <= self.held
+    }
+
     /// Puts a band among the held ones in place of that of its pair.
     pub(crate) fn place(&mut self, band: Band<K>) -> Result<(), Refusal>
         ensures placed { Ascending (bands_of self.old) → HasSmallTargets (bands_of self.old) → Placed K.Amount.kind band self.old self.new result }
@@ -31,7 +37,7 @@ impl<'a, K: Amount> Table<'a, K> {
             (Ok(at), false) => self.bands[at] = band,
             (Err(_), true) => {}
             (Err(at), false) => {
-                if self.bands.len().min(BAND_PLACES) <= self.held {
+                if self.is_full() {
                     return Err(Refusal::NoFreePlace);
                 }
                 self.put_in(at, band);

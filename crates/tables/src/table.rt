@@ -6,7 +6,7 @@ use crate::band::Band;
 use crate::reasons::{Remaining, rank_at, reason_of};
 use crate::rounds::run_rounds;
 use crate::tally::Tally;
-use crate::verdict::{Verdict, as_rank};
+use crate::verdict::{Verdict, as_rank, verdict_of};
 use amounts::amount::Amount;
 use refusals::Refusal;
 use theory::reason::Reason;
@@ -109,12 +109,7 @@ impl<'a, K: Amount> Table<'a, K> {
         let start = self.start;
         let tally = self.run_rounds();
         self.checked = true;
-        Verdict {
-            states: self.states,
-            removed: tally.removed,
-            rounds: tally.rounds,
-            start: self.rank_of(start),
-        }
+        verdict_of(self.states, tally, self.rank_of(start))
     }
 
     /// Runs the rounds over a copy of the ranks, since no call can take one lent slice for reading and the other for writing.

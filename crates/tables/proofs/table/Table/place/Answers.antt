@@ -1,12 +1,13 @@
 -- `place`: each of the five ways.
-use Rattle.std.proofs.Common.{sym, refl, arith}
+use Rattle.std.proofs.Common.{sym, refl, ◌∙◌}
+use Rattle.std.proofs.lemmas.Bool.{leb-true, leb-false}
 use Rattle.tables.proofs.Placing as placing
 use Rattle.tables.proofs.table.Table.place.Goals as goal
 
-pub returns-then-min-self-clause-placed : goal.returns-then-min-self-clause-placed
-returns-then-min-self-clause-placed g c order small =
+pub returns-then-is_full-clause-placed : goal.returns-then-is_full-clause-placed
+returns-then-is_full-clause-placed g c order small =
     placing.refused g.K.Amount.kind c.args.band c.args.self.now order c.in-Err-false.at _
-    (c.in-Err-false.ensures.found order small) (sym c.in-Err-false.ensures') (omega (arith, c.min.ensures)) refl
+    (c.in-Err-false.ensures.found order small) (sym c.in-Err-false.ensures') (leb-true _ _ (sym c.is_full.ensures ∙ c.if-is_full.true)) refl
 
 pub returns-in-Ok-true-clause-placed : goal.returns-in-Ok-true-clause-placed
 returns-in-Ok-true-clause-placed g c order small =
@@ -23,7 +24,7 @@ returns-in-Err-true-clause-placed g c order small =
     placing.nothing_new g.K.Amount.kind c.args.band c.args.self.now order c.in-Err-true.field-0-0 _
     (c.in-Err-true.ensures.found order small) (sym c.in-Err-true.ensures') refl
 
-pub returns-else-min-self-clause-placed : goal.returns-else-min-self-clause-placed
-returns-else-min-self-clause-placed g c order small =
+pub returns-else-is_full-clause-placed : goal.returns-else-is_full-clause-placed
+returns-else-is_full-clause-placed g c order small =
     placing.added g.K.Amount.kind c.args.band c.args.self.now order c.in-Err-false.at _
-    (c.in-Err-false.ensures.found order small) (sym c.in-Err-false.ensures') (omega (arith, c.min.ensures)) c.put_in.ensures.put
+    (c.in-Err-false.ensures.found order small) (sym c.in-Err-false.ensures') (leb-false _ _ (sym c.is_full.ensures ∙ c.if-is_full.false)) c.put_in.ensures.put
