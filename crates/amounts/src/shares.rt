@@ -52,6 +52,7 @@ impl Amount for Share {
         }
     }
 
+    // The check says that it cannot give this method the trait's clause, so the clause stands here again.
     fn share_out(self, own: Bounds<Share>, others: Bounds<Share>) -> Parts<Share>
         ensures { Shareable shares self own others → result ≡ shares.share_out self own others }
     {
@@ -71,10 +72,6 @@ impl RecordNumber for Share {
     ghost amount_of = { share_of };
 
     fn from_number(number: u32) -> Option<Share> {
-        if number <= FULL {
-            Some(Share { number })
-        } else {
-            None
-        }
+        (number <= FULL).then_some(Share { number })
     }
 }
