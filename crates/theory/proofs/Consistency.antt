@@ -1,5 +1,5 @@
 -- A state has no reason to fall exactly where it is locally consistent, and only the states decide which reason it has.
-use Rattle.std.proofs.Common.{◌≡◌, ℕ, ◌<◌, Bool, true, false, not, T, is_some, Some, None, Option, sym, refl, ap, subst, ⊎_elim}
+use Rattle.std.proofs.Common.{◌≡◌, ℕ, ◌<◌, Bool, true, false, not, is_some, Some, None, Option, refl, ap, ⊎_elim}
 use Rattle.std.proofs.lemmas.Bool.{cases_Bool, not-false, true≢false}
 use Rattle.amounts.specs.Kinds.{Kind, Laws, AtMost}
 use Rattle.theory.specs.Consistency.{low_inside, high_inside, total_low, total_high, Consistent, is_lost, is_crossed, first_reason, reason_of}
@@ -27,14 +27,10 @@ no_reason None None false false none = (refl, refl, refl, refl)
 module _ {S : Type 0} (k : Kind S) where
   -- the test of two amounts passes exactly where one is at most the other
   at_most_lem : (x y : S) → not (k.at_most x y) ≡ false → AtMost k x y
-  at_most_lem x y passes = record { holds = subst T (sym (not-false (k.at_most x y) passes)) tt }
+  at_most_lem x y passes = record { holds = not-false (k.at_most x y) passes }
 
   at_most_passes : (x y : S) → AtMost k x y → not (k.at_most x y) ≡ false
-  at_most_passes x y most = passes (k.at_most x y) most.holds
-    where
-      passes : (b : Bool) → T b → not b ≡ false
-      passes true holds = refl
-      passes false holds = absurd holds
+  at_most_passes x y most = ap not most.holds
 
 module _ {S : Type 0} (k : Kind S) (m : Model S) (x : ℕ → Bool) (t : ℕ) where
   pub consistent_from_none : Laws k → reason_of k m x t ≡ None → Consistent k m x t

@@ -1,17 +1,13 @@
 -- The same amount, up to which the laws hold: totals and tests respect it.
-use Rattle.std.proofs.Common.{◌≡◌, Bool, true, false, T, sym, refl, subst}
+use Rattle.std.proofs.Common.{◌≡◌, Bool, true, false, sym, refl}
 use Rattle.amounts.specs.Kinds.{Kind, Laws, AtMost, Same}
 
 module _ {S : Type 0} {k : Kind S} where
   pub at_most_from_test : (x y : S) → k.at_most x y ≡ true → AtMost k x y
-  at_most_from_test x y passes = record { holds = subst T (sym passes) tt }
+  at_most_from_test x y passes = record { holds = passes }
 
   pub test_from_at_most : (x y : S) → AtMost k x y → k.at_most x y ≡ true
-  test_from_at_most x y most = passes (k.at_most x y) most.holds
-    where
-      passes : (b : Bool) → T b → b ≡ true
-      passes true holds = refl
-      passes false holds = absurd holds
+  test_from_at_most x y most = most.holds
 
 module _ {S : Type 0} {k : Kind S} (laws : Laws k) where
   pub same_refl : (x : S) → Same k x x
