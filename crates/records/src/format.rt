@@ -99,18 +99,12 @@ fn name_record(bytes: &[u8], at: usize) -> Result<Record<'_>, RecordFault>
 fn is_name_length(length: u8) -> bool
     ensures { result ≡ name_length length }
 {
-    // `&` has no branch, so the proof has one way.
-    (1 <= length) & (length <= 8)
+    (1..=8).contains(&length)
 }
 
 /// The lowest position from `from` on whose byte is not 00.
 fn first_nonzero(bytes: &[u8], from: usize) -> Option<usize>
     ensures { FirstNonzero bytes.now from result }
 {
-    for p in from..bytes.len() {
-        if bytes[p] != 0 {
-            return Some(p);
-        }
-    }
-    None
+    (from..bytes.len()).find(|p| bytes[*p] != 0)
 }
