@@ -42,9 +42,9 @@ told r at {e} = by_cases (is_band r) (is_name r) (wrong_position r)
     by_cases : (band other : Bool) (wrong : Option ℕ) → cond (band || other) (unless_wrong wrong (cond band (band_in r) (name_in r at))) (Err (UnknownKind (byte r 0))) ≡ Ok e → (wrong ≡ None) × (((band ≡ true) × (e ≡ band_in r)) ⊎ ((other ≡ true) × (e ≡ name_in r at)))
     by_cases true other None same = (refl, inl (refl, cc))
     by_cases false true None same = (refl, inr (refl, cc))
-    by_cases true other (Some q) same = let z : ◌≡◌ {A = ℕ} 0 1 = cc in absurd (omega arith)
-    by_cases false true (Some q) same = let z : ◌≡◌ {A = ℕ} 0 1 = cc in absurd (omega arith)
-    by_cases false false wrong same = let z : ◌≡◌ {A = ℕ} 0 1 = cc in absurd (omega arith)
+    by_cases true other (Some q) same = cc
+    by_cases false true (Some q) same = cc
+    by_cases false false wrong same = cc
 
 -- twelve bytes that are refused are of no known kind, or have a lowest wrong position
 pub refused : (r : List ℕ) (at : ℕ) {f : RecordFault} → record_of r at ≡ Err f → ((is_band r || is_name r ≡ false) × (f ≡ UnknownKind (byte r 0))) ⊎ ((is_band r || is_name r ≡ true) × ((p : ℕ) × (wrong_position r ≡ Some p) × (f ≡ WrongByte p)))
@@ -52,14 +52,14 @@ refused r at {f} = by_cases (is_band r || is_name r) (wrong_position r)
   where
     by_cases : (known : Bool) (wrong : Option ℕ) → cond known (unless_wrong wrong (cond (is_band r) (band_in r) (name_in r at))) (Err (UnknownKind (byte r 0))) ≡ Err f → ((known ≡ false) × (f ≡ UnknownKind (byte r 0))) ⊎ ((known ≡ true) × ((p : ℕ) × (wrong ≡ Some p) × (f ≡ WrongByte p)))
     by_cases false wrong same = inl (refl, cc)
-    by_cases true None same = let z : ◌≡◌ {A = ℕ} 0 1 = cc in absurd (omega arith)
+    by_cases true None same = cc
     by_cases true (Some p) same = inr (refl, (p, refl, cc))
 
 -- a name begins four bytes after its record
 name_place : (r : List ℕ) (at : ℕ) {s p : ℕ} {bs : List ℕ} → record_of r at ≡ Ok (name s p bs) → p ≡ at + 4
 name_place r at {s} {p} {bs} here =
     ⊎_elim
-    (λ (band : (is_band r ≡ true) × (name s p bs ≡ band_in r)). let is = band.1 in let z : ◌≡◌ {A = ℕ} 0 1 = cc in absurd (omega arith))
+    (λ (band : (is_band r ≡ true) × (name s p bs ≡ band_in r)). let is = band.1 in cc)
     (λ (other : (is_name r ≡ true) × (name s p bs ≡ name_in r at)). let is = other.1 in cc)
     (told r at here).1
 

@@ -1,11 +1,13 @@
 -- A record is found exactly where its bytes stand.
-use Rattle.std.proofs.Common.{◌≡◌, ℕ, zero, suc, ◌+◌, ◌-◌, ◌*◌, ◌/◌, ◌%◌, ◌^◌, ◌<◌, ◌≤◌, true, false, ◌||◌, leb, List, [], ◌∷◌, ◌++◌, length, take, drop, replicate, Some, None, Ok, Err, Option, Result, sym, refl, ap, ◌∙◌, subst, ⊎_elim, add-zero, add-one, arith}
+use Rattle.std.proofs.Common.{◌≡◌, ℕ, zero, suc, ◌+◌, ◌-◌, ◌*◌, ◌/◌, ◌%◌, ◌^◌, ◌<◌, ◌≤◌, true, false, ◌||◌, leb, List, [], ◌∷◌, ◌++◌, length, take, drop, replicate, Some, None, Ok, Err, Option, Result, sym, refl, ap, ◌∙◌, subst, ⊎_elim, add-zero, add-one, arith, Bor}
 use Rattle.std.proofs.lemmas.List.{drop_all, drop-drop, drop_more, get_or-append_right, get_or-drop, get_or-replicate, get_or-take, length-append, length-drop, length-replicate, length-take, take-append-drop, take_at}
 use Rattle.std.proofs.lemmas.Bool.{and_from, and_parts, eqb-false, eqb-true, leb-true, le-leb, or_parts}
 use Rattle.records.specs.declared.fault.RecordFault.{RecordFault}
 use Rattle.records.specs.declared.fault.RecordFault.TheVariants.{Partial, UnknownKind, WrongByte}
+use Rattle.records.specs.declared.record.Record.{Record}
 use Rattle.records.specs.Encoding.{little_endian, encoded, Sayable, Says, Told, Tells}
 use Rattle.records.specs.Format.{Entry, band, name, byte, number, name_length, is_band, is_name, wrong_position, band_in, name_in, present, record_of, record_at}
+use Rattle.records.specs.Reading.{answered, NoCopy, past, StandsAt}
 use Rattle.records.proofs.Cursor.{at_record, by_left, told, refused}
 use Rattle.records.proofs.Positions.{wrong_tells, third_right, length_right, filler_right, band_right, name_right}
 
@@ -153,3 +155,7 @@ module _ (bytes : List ℕ) (at : ℕ) (typed : (i : ℕ) → byte bytes i < 2 ^
 
   pub tells : (answer : Result (Option Entry) RecordFault) → answer ≡ record_at bytes at → Tells bytes at answer
   tells answer is = subst (Tells bytes at) (sym is) record { told = told_at; finds = finds bytes at }
+
+-- what an answer must be to say what stands at a cursor; what it tells of the bytes follows
+pub stands : (input : Bor (List ℕ)) (at : ℕ) → ((i : ℕ) → byte input.now i < 2 ^ 8) → (r : Result (Option Record) RecordFault) → answered r ≡ record_at input.now at → NoCopy input.ref_ptr r → past at r < 2 ^ 64 → StandsAt input at r
+stands input at typed r answer in_place within = record { answer = answer; tells = tells input.now at typed _ answer; in_place = in_place; within = within }

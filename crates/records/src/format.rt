@@ -69,7 +69,7 @@ fn number_at(bytes: &[u8], p: usize) -> u32
     requires { p + 4 ≤ length bytes.now }
     ensures { result ≡ number bytes.now p }
 {
-    u32::from_le_bytes([bytes[p], bytes[p + 1], bytes[p + 2], bytes[p + 3]])
+    u32::from_le_bytes(*bytes[p..].first_chunk().unwrap())
 }
 
 fn name_record(bytes: &[u8], at: usize) -> Result<Record<'_>, RecordFault>
