@@ -1,5 +1,6 @@
 -- The same amount, up to which the laws hold: totals and tests respect it.
-use Rattle.std.proofs.Common.{◌≡◌, Bool, true, false, sym, refl}
+use Rattle.std.proofs.Common.{◌≡◌, Bool, true, arith}
+use Rattle.std.proofs.lemmas.Bool.Decides.{nat_tests}
 use Rattle.amounts.specs.Kinds.{Kind, Laws, AtMost, Same}
 
 module _ {S : Type 0} {k : Kind S} where
@@ -32,9 +33,7 @@ module _ {S : Type 0} {k : Kind S} (laws : Laws k) where
       (λ p. test_from_at_most x y (laws.at_most_trans x v y x_v (laws.at_most_trans v w y (at_most_from_test v w p) w_y)))
     where
       by : (b c : Bool) → (b ≡ true → c ≡ true) → (c ≡ true → b ≡ true) → b ≡ c
-      by true c there back = sym (there refl)
-      by false true there back = back refl
-      by false false there back = refl
+      by b c there back = grind (arith, nat_tests)
 
   pub test_same_left : {x v : S} (y : S) → Same k x v → k.at_most x y ≡ k.at_most v y
   test_same_left y p = tests_same p.back p.there (laws.at_most_refl y) (laws.at_most_refl y)
