@@ -1,7 +1,8 @@
 -- A record is found exactly where its bytes stand.
-use Rattle.std.proofs.Common.{◌≡◌, ℕ, zero, suc, ◌+◌, ◌-◌, ◌*◌, ◌/◌, ◌%◌, ◌^◌, ◌<◌, ◌≤◌, true, false, ◌||◌, leb, List, [], ◌∷◌, ◌++◌, length, take, drop, replicate, Some, None, Ok, Err, Option, Result, sym, refl, ap, ◌∙◌, subst, ⊎_elim, add-zero, add-one, arith, Bor}
+use Rattle.std.proofs.Common.{◌≡◌, ℕ, zero, suc, ◌+◌, ◌-◌, ◌*◌, ◌/◌, ◌%◌, ◌^◌, ◌<◌, ◌≤◌, true, false, ◌||◌, List, [], ◌∷◌, ◌++◌, length, take, drop, replicate, Some, None, Ok, Err, Option, Result, sym, refl, ap, ◌∙◌, subst, ⊎_elim, add-zero, add-one, arith, Bor}
 use Rattle.std.proofs.lemmas.List.{drop_all, drop-drop, drop_more, get_or-append_right, get_or-drop, get_or-replicate, get_or-take, length-append, length-drop, length-replicate, length-take, take-append-drop, take_at}
-use Rattle.std.proofs.lemmas.Bool.{and_from, and_parts, eqb-false, eqb-true, leb-true, le-leb, or_parts}
+use Rattle.std.proofs.lemmas.Bool.Decides.{nat_tests}
+use Rattle.std.proofs.lemmas.Bool.{eqb-false, eqb-true, or_parts}
 use Rattle.records.specs.declared.fault.RecordFault.{RecordFault}
 use Rattle.records.specs.declared.fault.RecordFault.TheVariants.{Partial, UnknownKind, WrongByte}
 use Rattle.records.specs.declared.record.Record.{Record}
@@ -45,7 +46,7 @@ number_from : (n : ℕ) → n < 2 ^ 32 → n % 256 + n / 256 % 256 * 256 + n / 2
 number_from n fits = omega arith
 
 length_is : (n : ℕ) → name_length n ≡ true → (1 ≤ n) × (n ≤ 8)
-length_is n good = let both = and_parts (leb 1 n) (leb n 8) good in (leb-true 1 n both.0, leb-true n 8 both.1)
+length_is n good = grind (arith, nat_tests)
 
 -- twelve bytes that are nowhere wrong
 module _ (r : List ℕ) (long : length r ≡ 12) (typed : (i : ℕ) → i < 12 → byte r i < 2 ^ 8) (right : wrong_position r ≡ None) (at : ℕ) where
@@ -86,7 +87,7 @@ name_read : (s : ℕ) (bs : List ℕ) (at : ℕ) → 1 ≤ length bs → length 
 name_read s bs at some few =
     let r : List ℕ = encoded (name s (at + 4) bs) in
     let head : List ℕ = 0x4E ∷ s ∷ length bs ∷ 0 ∷ bs in
-    let good : name_length (length bs) ≡ true = and_from (leb 1 (length bs)) (leb (length bs) 8) (le-leb 1 (length bs) some) (le-leb (length bs) 8 few) in
+    let good : name_length (length bs) ≡ true = grind (arith, nat_tests) in
     let zeros : (k : ℕ) → 4 + length bs ≤ k → k < 12 → byte r k ≡ 0 = λ k lo hi. get_or-append_right head (replicate (8 - length bs) 0) (4 + length bs) k 0 (omega arith) lo ∙ get_or-replicate (8 - length bs) (k - (4 + length bs)) 0 0 (omega arith) in
     rw (name_right r refl good refl zeros) (ap (λ (b : List ℕ). Ok (name s (at + 4) b)) (take_at bs (replicate (8 - length bs) 0) (length bs) refl))
 
