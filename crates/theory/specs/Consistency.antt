@@ -1,5 +1,5 @@
 -- Local consistency of a state with a set of states, and why it fails.
-use Rattle.std.specs.Prelude.{◌≡◌, ℕ, ◌<◌, Bool, true, false, not, ◌&&◌, Some, None, Option, if◌then◌else◌}
+use Rattle.std.specs.Prelude.{ℕ, ◌<◌, Bool, IsTrue, IsFalse, not, ◌&&◌, Some, None, Option, if◌then◌else◌}
 use Rattle.amounts.specs.Kinds.{Kind, AtMost, IsNothing}
 use Rattle.theory.specs.Models.{Model, total_below, lowest_below}
 use Rattle.theory.specs.declared.reason.Reason.{Reason}
@@ -21,8 +21,8 @@ module _ {S : Type 0} (k : Kind S) (m : Model S) (x : ℕ → Bool) (t : ℕ) wh
 
   -- state t is locally consistent with the set x
   pub record Consistent : Type 0 where
-    pub outside : (u : ℕ) → u < m.states → x u ≡ false → IsNothing k (m.band t u).low
-    pub inside : (u : ℕ) → u < m.states → x u ≡ true → AtMost k (m.band t u).low (m.band t u).high
+    pub outside : (u : ℕ) → u < m.states → IsFalse (x u) → IsNothing k (m.band t u).low
+    pub inside : (u : ℕ) → u < m.states → IsTrue (x u) → AtMost k (m.band t u).low (m.band t u).high
     pub lows : AtMost k total_low k.full
     pub highs : AtMost k k.full total_high
 
