@@ -28,10 +28,7 @@ module _ {S : Type 0} (k : Kind S) (m : Model S) (first : ℕ → Bool) where
   pub rank_zero : (r t : ℕ) → first t ≡ true → eqb (rank_within k m first r t) 0 ≡ standing k m first r t
   unfolding rank_within standing
   rank_zero zero t stood = sym stood
-  rank_zero (suc r) t stood = step (standing k m first r t) (standing k m first (suc r) t) (stood_before r t) (rank_zero r t stood)
-    where
-      step : (before after : Bool) → (after ≡ true → before ≡ true) → eqb (rank_within k m first r t) 0 ≡ before → eqb (cond (before && not after) (suc r) (rank_within k m first r t)) 0 ≡ after
-      step before after earlier same = grind (arith, nat_tests)
+  rank_zero (suc r) t stood = let earlier = stood_before r t in let before = rank_zero r t stood in grind (arith, nat_tests)
 
   falls_ranked : (r t : ℕ) → falls_after k m first r t ≡ true → rank_within k m first (suc r) t ≡ suc r
   unfolding rank_within
@@ -92,10 +89,7 @@ module _ {S : Type 0} (k : Kind S) (m : Model S) (first : ℕ → Bool) where
 
   -- a state that does not stand after a round had fallen before it, or falls in it
   falls_once : (r t : ℕ) → cond (not (standing k m first (suc r) t)) 1 0 ≡ cond (not (standing k m first r t)) 1 0 + cond (falls_after k m first r t) 1 0
-  falls_once r t = step (standing k m first r t) (standing k m first (suc r) t) (stood_before r t)
-    where
-      step : (before after : Bool) → (after ≡ true → before ≡ true) → cond (not after) 1 0 ≡ cond (not before) 1 0 + cond (before && not after) 1 0
-      step before after stood = grind (arith, nat_tests)
+  falls_once r t = let earlier = stood_before r t in grind (arith, nat_tests)
 
   pub progress_more : {r removed : ℕ} → Progress r removed → 0 < count_below (falls_after k m first r) m.states → Progress (suc r) (removed + count_below (falls_after k m first r) m.states)
   progress_more {r} {removed} before some =
@@ -120,10 +114,7 @@ module _ {S : Type 0} (k : Kind S) (m : Model S) (first : ℕ → Bool) where
   -- no state falls after r rounds
   module _ (r : ℕ) (quiet : count_below (falls_after k m first r) m.states ≡ 0) where
     stands_on : (t : ℕ) → t < m.states → standing k m first (suc r) t ≡ standing k m first r t
-    stands_on t below = step (standing k m first r t) (standing k m first (suc r) t) (stood_before r t) (count_zero (falls_after k m first r) m.states quiet t below)
-      where
-        step : (before after : Bool) → (after ≡ true → before ≡ true) → (before && not after) ≡ false → after ≡ before
-        step before after stood stays = grind (arith, nat_tests)
+    stands_on t below = let earlier = stood_before r t in let stays = count_zero (falls_after k m first r) m.states quiet t below in grind (arith, nat_tests)
 
     -- so none falls later
     standing_kept : (n : ℕ) → r ≤ n → (t : ℕ) → t < m.states → standing k m first n t ≡ standing k m first r t
