@@ -15,9 +15,6 @@ total_same k f g (suc n) same = ap₂ k.total (total_same k f g n (λ u below. s
 abbrev found : ℕ → Option ℕ → Bool → Option ℕ
 found n before passes = option_or before (cond passes (Some n) None)
 
-found_none : (n : ℕ) (before : Option ℕ) (passes : Bool) → found n before passes ≡ None → (before ≡ None) × (passes ≡ false)
-found_none n before passes none = grind (arith, nat_tests)
-
 pub lowest_same : (p q : ℕ → Bool) (n : ℕ) → ((u : ℕ) → u < n → p u ≡ q u) → lowest_below p n ≡ lowest_below q n
 unfolding lowest_below
 lowest_same p q zero same = refl
@@ -32,7 +29,7 @@ module _ (test : ℕ → Bool) where
   pub none_passes : (n : ℕ) → lowest_below test n ≡ None → (u : ℕ) → u < n → test u ≡ false
   unfolding lowest_below
   none_passes zero none u below = absurd (omega arith)
-  none_passes (suc n) none u below = let both = found_none n (lowest_below test n) (test n) none in let before = none_passes n both.0 in grind (arith, nat_tests)
+  none_passes (suc n) none u below = let before = none_passes n in grind (arith, nat_tests)
 
   -- what is found below v is found below every n from v on
   pub lowest_kept : (n v u : ℕ) → lowest_below test v ≡ Some u → v ≤ n → lowest_below test n ≡ Some u
