@@ -28,22 +28,21 @@ fn an_empty_input_has_no_record(rt: HostRuntime) -> Result<(), Fail> {
 #[test]
 fn a_band_has_its_least_significant_byte_first(rt: HostRuntime) -> Result<(), Fail> {
     let mut reader = Reader::new(&BAND);
-    match reader.next()? {
-        Some(
-            Record::Band {
-                source,
-                target,
-                low,
-                high,
-            },
-        ) => {
-            assert_eq!(rt; source, 1);
-            assert_eq!(rt; target, 2);
-            assert_eq!(rt; low, 0x1234_5678);
-            assert_eq!(rt; high, 0xffff_ffff);
-        }
-        _ => return Err(Fail::new("no band")),
-    }
+    let Some(
+        Record::Band {
+            source,
+            target,
+            low,
+            high,
+        },
+    ) = reader.next()?
+    else {
+        return Err(Fail::new("no band"));
+    };
+    assert_eq!(rt; source, 1);
+    assert_eq!(rt; target, 2);
+    assert_eq!(rt; low, 0x1234_5678);
+    assert_eq!(rt; high, 0xffff_ffff);
     assert_eq!(rt; reader.cursor, 12);
     assert!(rt; reader.next()?.is_none());
     assert_eq!(rt; reader.cursor, 12);
@@ -57,14 +56,12 @@ fn a_name_is_a_part_of_the_input(rt: HostRuntime) -> Result<(), Fail> {
     bytes[12..24].copy_from_slice(&NAME);
     let mut reader = Reader::new(&bytes);
     assert!(rt; reader.next()?.is_some());
-    match reader.next()? {
-        Some(Record::Name { state, place, name }) => {
-            assert_eq!(rt; state, 9);
-            assert_eq!(rt; place, 16);
-            assert!(rt; name == &bytes[16..19]);
-        }
-        _ => return Err(Fail::new("no name")),
-    }
+    let Some(Record::Name { state, place, name }) = reader.next()? else {
+        return Err(Fail::new("no name"));
+    };
+    assert_eq!(rt; state, 9);
+    assert_eq!(rt; place, 16);
+    assert!(rt; name == &bytes[16..19]);
     assert_eq!(rt; reader.cursor, 24);
     Ok(())
 }
@@ -76,10 +73,10 @@ fn a_name_has_one_to_eight_bytes(rt: HostRuntime) -> Result<(), Fail> {
         bytes[0] = 0x4E;
         bytes[2] = length;
         let mut reader = Reader::new(&bytes);
-        match reader.next()? {
-            Some(Record::Name { name, .. }) => assert_eq!(rt; name.len(), usize::from(length)),
-            _ => return Err(Fail::new("no name")),
-        }
+        let Some(Record::Name { name, .. }) = reader.next()? else {
+            return Err(Fail::new("no name"));
+        };
+        assert_eq!(rt; name.len(), usize::from(length));
     }
     Ok(())
 }
