@@ -1,5 +1,5 @@
 -- Grades: the whole numbers of 32 bits. Their total is the larger.
-use Rattle.std.specs.Prelude.{ℕ, min, max, cond, Some, None, Option, nat_le}
+use Rattle.std.specs.Prelude.{ℕ, min, max, Some, None, Option, nat_le, if◌then◌else◌}
 use Rattle.amounts.specs.Kinds.{Kind}
 use Rattle.amounts.specs.declared.grades.Grade.{Grade}
 
@@ -25,4 +25,4 @@ grades = record {
 
 -- in records 0 to full stand for themselves
 abbrev pub grade_of : ℕ → Option Grade
-grade_of n = cond (nat_le n 1_000) (Some (grade n)) None
+grade_of n = if nat_le n 1_000 then Some (grade n) else None

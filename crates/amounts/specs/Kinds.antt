@@ -1,6 +1,6 @@
 -- A kind of amount: its operations, and the six laws by which alone the engine knows it.
 -- No law says that of two amounts one is at most the other.
-use Rattle.std.specs.Prelude.{Bool, T}
+use Rattle.std.specs.Prelude.{Bool, IsTrue}
 use Rattle.amounts.specs.declared.bounds.Bounds.{Bounds}
 use Rattle.amounts.specs.declared.bounds.Parts.{Parts}
 
@@ -15,7 +15,7 @@ pub record Kind (S : Type 0) : Type 0 where
 
 -- x is at most y
 pub record AtMost {S : Type 0} (k : Kind S) (x y : S) : Type 0 where
-  pub holds : T (k.at_most x y)
+  pub holds : IsTrue (k.at_most x y)
 
 -- x and y are the same amount: each is at most the other. Several numbers may stand for one amount, so this and not `≡` is the equality of amounts.
 pub record Same {S : Type 0} (k : Kind S) (x y : S) : Type 0 where

@@ -1,5 +1,5 @@
 -- Shares: the whole numbers 0 to 1,048,576, and over, which lies above them. Their total is the sum.
-use Rattle.std.specs.Prelude.{ℕ, ◌+◌, ◌-◌, min, max, cond, Some, None, Option, nat_le}
+use Rattle.std.specs.Prelude.{ℕ, ◌+◌, ◌-◌, min, max, Some, None, Option, nat_le, if◌then◌else◌}
 use Rattle.amounts.specs.Kinds.{Kind}
 use Rattle.amounts.specs.declared.bounds.Parts.{Parts}
 use Rattle.amounts.specs.declared.shares.Share.{Share}
@@ -32,4 +32,4 @@ shares = record {
 
 -- in records 0 to full stand for themselves
 abbrev pub share_of : ℕ → Option Share
-share_of n = cond (nat_le n 1_048_576) (Some (share n)) None
+share_of n = if nat_le n 1_048_576 then Some (share n) else None

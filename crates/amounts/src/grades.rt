@@ -10,7 +10,7 @@ use crate::record_number::RecordNumber;
 
 const FULL: u32 = 1_000;
 
-#[derive(Clone, Copy)]
+#[derive(Clone, Copy, PartialEq, Eq, PartialOrd, Ord, Debug)]
 pub struct Grade {
     pub number: u32,
 }
@@ -37,25 +37,20 @@ impl Amount for Grade {
     }
 
     fn at_most(self, other: Grade) -> bool {
-        self.number <= other.number
+        self <= other
     }
 
     fn larger(self, other: Grade) -> Grade {
-        Grade {
-            number: self.number.max(other.number),
-        }
+        self.max(other)
     }
 
+    // The check says that it cannot give this method the trait's clause, so the clause stands here again.
     fn share_out(self, own: Bounds<Grade>, others: Bounds<Grade>) -> Parts<Grade>
         ensures { Shareable grades self own others → result ≡ grades.share_out self own others }
     {
         Parts {
-            own: Grade {
-                number: own.high.number.min(self.number),
-            },
-            others: Grade {
-                number: others.high.number.min(self.number),
-            },
+            own: own.high.min(self),
+            others: others.high.min(self),
         }
     }
 }
@@ -64,10 +59,6 @@ impl RecordNumber for Grade {
     ghost amount_of = { grade_of };
 
     fn from_number(number: u32) -> Option<Grade> {
-        if number <= FULL {
-            Some(Grade { number })
-        } else {
-            None
-        }
+        (number <= FULL).then_some(Grade { number })
     }
 }

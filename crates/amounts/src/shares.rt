@@ -36,9 +36,8 @@ impl Amount for Share {
     }
 
     fn total(self, other: Share) -> Share {
-        let sum = u64::from(self.number) + u64::from(other.number);
         Share {
-            number: sum.min(u64::from(OVER)) as u32,
+            number: self.number.saturating_add(other.number).min(OVER),
         }
     }
 
@@ -52,6 +51,7 @@ impl Amount for Share {
         }
     }
 
+    // The check says that it cannot give this method the trait's clause, so the clause stands here again.
     fn share_out(self, own: Bounds<Share>, others: Bounds<Share>) -> Parts<Share>
         ensures { Shareable shares self own others → result ≡ shares.share_out self own others }
     {
@@ -71,10 +71,6 @@ impl RecordNumber for Share {
     ghost amount_of = { share_of };
 
     fn from_number(number: u32) -> Option<Share> {
-        if number <= FULL {
-            Some(Share { number })
-        } else {
-            None
-        }
+        (number <= FULL).then_some(Share { number })
     }
 }

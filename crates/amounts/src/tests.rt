@@ -4,6 +4,7 @@ use crate::bounds::Bounds;
 use crate::grades::Grade;
 use crate::record_number::RecordNumber;
 use crate::shares::Share;
+use std::process::Abort;
 
 const SHARES: [u32; 6] = [0, 1, 1_048_575, 1_048_576, 1_048_577, 4_294_967_295];
 
@@ -66,135 +67,150 @@ const GRADE_OUTS: [[u32; 7]; 5] = [
     [1_000, 0, 1_001, 0, 4_294_967_295, 1_000, 1_000],
 ];
 
-fn share(number: u32) -> Share {
-    Share { number }
+/// A kind whose amounts the tests make of any number, and read as one.
+trait Numbered: RecordNumber {
+    fn of(number: u32) -> Self;
+
+    fn number(self) -> u32;
 }
 
-fn grade(number: u32) -> Grade {
-    Grade { number }
+impl Numbered for Share {
+    fn of(number: u32) -> Share {
+        Share { number }
+    }
+
+    fn number(self) -> u32 {
+        self.number
+    }
 }
 
-// Full is the fourth edge of both kinds: up to it a number stands for itself, past it for no amount.
-fn up_to_full(edges: &[u32; 6], i: usize) -> Option<u32> {
-    if i <= 3 { Some(edges[i]) } else { None }
+impl Numbered for Grade {
+    fn of(number: u32) -> Grade {
+        Grade { number }
+    }
+
+    fn number(self) -> u32 {
+        self.number
+    }
+}
+
+fn has_constants<K: Numbered>(rt: &impl Abort, full: u32) {
+    assert_eq!(rt; K::nothing().number(), 0);
+    assert_eq!(rt; K::full().number(), full);
+    assert_eq!(rt; K::grain().number(), 1);
+}
+
+fn is_ordered<K: Numbered>(rt: &impl Abort, edges: &[u32; 6], at_most: &[[bool; 6]; 6]) {
+    for (x, row) in edges.iter().zip(at_most) {
+        for (y, expected) in edges.iter().zip(row) {
+            assert_eq!(rt; K::of(*x).at_most(K::of(*y)), *expected);
+        }
+    }
+}
+
+fn larger_is_later<K: Numbered>(rt: &impl Abort, edges: &[u32; 6]) {
+    for (i, x) in edges.iter().enumerate() {
+        for (j, y) in edges.iter().enumerate() {
+            assert_eq!(rt; K::of(*x).larger(K::of(*y)).number(), edges[i.max(j)]);
+        }
+    }
+}
+
+fn is_shared_out<K: Numbered>(rt: &impl Abort, rows: &[[u32; 7]]) {
+    for &[
+        whole,
+        own_low,
+        own_high,
+        others_low,
+        others_high,
+        own,
+        others,
+    ] in rows {
+        let own_bounds = Bounds {
+            low: K::of(own_low),
+            high: K::of(own_high),
+        };
+        let others_bounds = Bounds {
+            low: K::of(others_low),
+            high: K::of(others_high),
+        };
+        let parts = K::of(whole).share_out(own_bounds, others_bounds);
+        assert_eq!(rt; parts.own.number(), own);
+        assert_eq!(rt; parts.others.number(), others);
+    }
+}
+
+fn numbers_end_at_full<K: Numbered>(rt: &impl Abort, edges: &[u32; 6]) {
+    for (i, edge) in edges.iter().enumerate() {
+        let number = K::from_number(*edge).map(|x| x.number());
+        // Full is the fourth edge of both kinds: up to it a number stands for itself, past it for no amount.
+        assert_eq!(rt; number, (i <= 3).then_some(*edge));
+    }
 }
 
 #[test]
 fn shares_have_their_constants(rt: HostRuntime) {
-    assert_eq!(rt; Share::nothing().number, 0);
-    assert_eq!(rt; Share::full().number, 1_048_576);
-    assert_eq!(rt; Share::grain().number, 1);
+    has_constants::<Share>(&rt, 1_048_576);
 }
 
 #[test]
 fn shares_add_up_to_over(rt: HostRuntime) {
-    for pair in 0..36 {
-        let (i, j) = (pair / 6, pair % 6);
-        let total = share(SHARES[i]).total(share(SHARES[j]));
-        assert_eq!(rt; total.number, SHARE_TOTALS[i][j]);
+    for (x, row) in SHARES.iter().zip(&SHARE_TOTALS) {
+        for (y, total) in SHARES.iter().zip(row) {
+            assert_eq!(rt; Share::of(*x).total(Share::of(*y)).number, *total);
+        }
     }
-    let over = share(600_000).total(share(600_000));
+    let over = Share::of(600_000).total(Share::of(600_000));
     assert!(rt; !over.at_most(Share::full()));
 }
 
 #[test]
 fn shares_are_ordered_up_to_over(rt: HostRuntime) {
-    for pair in 0..36 {
-        let (i, j) = (pair / 6, pair % 6);
-        let at_most = share(SHARES[i]).at_most(share(SHARES[j]));
-        assert_eq!(rt; at_most, SHARES_AT_MOST[i][j]);
-    }
+    is_ordered::<Share>(&rt, &SHARES, &SHARES_AT_MOST);
 }
 
 #[test]
 fn the_larger_share_is_the_later_edge(rt: HostRuntime) {
-    for pair in 0..36 {
-        let (i, j) = (pair / 6, pair % 6);
-        let larger = share(SHARES[i]).larger(share(SHARES[j]));
-        assert_eq!(rt; larger.number, SHARES[i.max(j)]);
-    }
+    larger_is_later::<Share>(&rt, &SHARES);
 }
 
 #[test]
 fn shares_are_shared_out(rt: HostRuntime) {
-    for row in SHARE_OUTS {
-        let own = Bounds {
-            low: share(row[1]),
-            high: share(row[2]),
-        };
-        let others = Bounds {
-            low: share(row[3]),
-            high: share(row[4]),
-        };
-        let parts = share(row[0]).share_out(own, others);
-        assert_eq!(rt; parts.own.number, row[5]);
-        assert_eq!(rt; parts.others.number, row[6]);
-    }
+    is_shared_out::<Share>(&rt, &SHARE_OUTS);
 }
 
 #[test]
 fn share_numbers_end_at_full(rt: HostRuntime) {
-    for i in 0..6 {
-        let number = match Share::from_number(SHARES[i]) {
-            Some(x) => Some(x.number),
-            None => None,
-        };
-        assert_eq!(rt; number, up_to_full(&SHARES, i));
-    }
+    numbers_end_at_full::<Share>(&rt, &SHARES);
 }
 
 #[test]
 fn grades_have_their_constants(rt: HostRuntime) {
-    assert_eq!(rt; Grade::nothing().number, 0);
-    assert_eq!(rt; Grade::full().number, 1_000);
-    assert_eq!(rt; Grade::grain().number, 1);
+    has_constants::<Grade>(&rt, 1_000);
 }
 
 #[test]
 fn the_total_and_the_larger_grade_are_the_later_edge(rt: HostRuntime) {
-    for pair in 0..36 {
-        let (i, j) = (pair / 6, pair % 6);
-        let x = grade(GRADES[i]);
-        let y = grade(GRADES[j]);
-        assert_eq!(rt; x.total(y).number, GRADES[i.max(j)]);
-        assert_eq!(rt; x.larger(y).number, GRADES[i.max(j)]);
+    larger_is_later::<Grade>(&rt, &GRADES);
+    for (i, x) in GRADES.iter().enumerate() {
+        for (j, y) in GRADES.iter().enumerate() {
+            assert_eq!(rt; Grade::of(*x).total(Grade::of(*y)).number, GRADES[i.max(j)]);
+        }
     }
-    assert_eq!(rt; grade(1_000).total(grade(1_000)).number, 1_000);
+    assert_eq!(rt; Grade::of(1_000).total(Grade::of(1_000)).number, 1_000);
 }
 
 #[test]
 fn grades_are_ordered_as_numbers(rt: HostRuntime) {
-    for pair in 0..36 {
-        let (i, j) = (pair / 6, pair % 6);
-        let at_most = grade(GRADES[i]).at_most(grade(GRADES[j]));
-        assert_eq!(rt; at_most, GRADES_AT_MOST[i][j]);
-    }
+    is_ordered::<Grade>(&rt, &GRADES, &GRADES_AT_MOST);
 }
 
 #[test]
 fn grades_are_shared_out(rt: HostRuntime) {
-    for row in GRADE_OUTS {
-        let own = Bounds {
-            low: grade(row[1]),
-            high: grade(row[2]),
-        };
-        let others = Bounds {
-            low: grade(row[3]),
-            high: grade(row[4]),
-        };
-        let parts = grade(row[0]).share_out(own, others);
-        assert_eq!(rt; parts.own.number, row[5]);
-        assert_eq!(rt; parts.others.number, row[6]);
-    }
+    is_shared_out::<Grade>(&rt, &GRADE_OUTS);
 }
 
 #[test]
 fn grade_numbers_end_at_full(rt: HostRuntime) {
-    for i in 0..6 {
-        let number = match Grade::from_number(GRADES[i]) {
-            Some(x) => Some(x.number),
-            None => None,
-        };
-        assert_eq!(rt; number, up_to_full(&GRADES, i));
-    }
+    numbers_end_at_full::<Grade>(&rt, &GRADES);
 }

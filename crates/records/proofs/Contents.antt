@@ -1,6 +1,5 @@
 -- The contents of an input: one record further, and that they are what the input holds.
-use Rattle.std.proofs.Common.{◌≡◌, ℕ, zero, suc, ◌+◌, ◌-◌, ◌*◌, ◌^◌, ◌<◌, ◌≤◌, List, ◌∷◌, length, Some, None, Ok, Err, Option, Result, sym, refl, ap, subst, ⊎_elim, add-zero, zero-add, add-one, arith}
-use Rattle.std.proofs.lemmas.Bool.{cases_lt}
+use Rattle.std.proofs.Common.{◌≡◌, ℕ, zero, suc, ◌+◌, ◌-◌, ◌*◌, ◌^◌, ◌<◌, ◌≤◌, List, ◌∷◌, length, Some, None, Ok, Err, Option, Result, sym, refl, subst, add-zero, zero-add, add-one, arith}
 use Rattle.records.specs.declared.fault.RecordFault.{RecordFault}
 use Rattle.records.specs.Contents.{Contents, and_then, contents_in, contents_from, contents, StandFrom, last_answer, Holds}
 use Rattle.records.specs.Encoding.{Told}
@@ -14,19 +13,16 @@ module _ (bytes : List ℕ) where
   unfolding contents_in
   enough zero at few = absurd (omega arith)
   enough (suc turns) at few =
-      ⊎_elim
-      (λ (more : at < length bytes). ap (and_then (record_at bytes at)) (enough turns (at + 12) (omega arith)))
-      (λ (none : length bytes ≤ at). rw (at_end bytes at none))
-      (cases_lt at (length bytes))
+      let more = enough turns (at + 12) in
+      let none = at_end bytes at in
+      grind arith
 
   pub step : (at : ℕ) → contents_from bytes at ≡ and_then (record_at bytes at) (contents_from bytes (at + 12))
   unfolding contents_in
   step at =
-      rw (add-one (length bytes))
-      (⊎_elim
-      (λ (more : at < length bytes). ap (and_then (record_at bytes at)) (enough (length bytes) (at + 12) (omega arith)))
-      (λ (none : length bytes ≤ at). rw (at_end bytes at none))
-      (cases_lt at (length bytes)))
+      let more = enough (length bytes) (at + 12) in
+      let none = at_end bytes at in
+      rw (add-one (length bytes)) (grind arith)
 
 module _ (bytes : List ℕ) (typed : (i : ℕ) → byte bytes i < 2 ^ 8) where
   abbrev HoldsFrom : ℕ → Contents → Type 0

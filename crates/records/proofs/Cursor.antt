@@ -1,11 +1,12 @@
 -- What stands at a cursor, by how many bytes are left there, and where a name lies.
-use Rattle.std.proofs.Common.{◌≡◌, ℕ, ◌+◌, ◌-◌, ◌<◌, ◌≤◌, Bool, true, false, cond, ◌||◌, ◌⊎◌, List, length, take, drop, Some, None, Ok, Err, Option, Result, sym, refl, ap, ◌∙◌, inl, inr, ⊎_elim, arith, length-drop, Bor}
-use Rattle.std.proofs.lemmas.Bool.{cases_lt, eq-eqb, ne_eqb, lt-ltb, le-ltb}
+use Rattle.std.proofs.Common.{◌≡◌, ℕ, ◌+◌, ◌-◌, ◌<◌, ◌≤◌, true, false, ◌||◌, ◌⊎◌, List, length, take, drop, Some, None, Ok, Err, Result, sym, ap, ◌∙◌, arith, length-drop, Bor}
+use Rattle.std.proofs.lemmas.Bool.Decides.{nat_tests}
+use Rattle.std.proofs.lemmas.Bool.{eq-eqb, ne_eqb, lt-ltb, le-ltb}
 use Rattle.records.specs.declared.fault.RecordFault.{RecordFault}
 use Rattle.records.specs.declared.fault.RecordFault.TheVariants.{Partial, UnknownKind, WrongByte}
 use Rattle.records.specs.declared.record.Record.{Record}
 use Rattle.records.specs.declared.record.Record.TheVariants.{Band, Name}
-use Rattle.records.specs.Format.{Entry, name, byte, is_band, is_name, wrong_position, band_in, name_in, unless_wrong, present, record_of, record_at}
+use Rattle.records.specs.Format.{Entry, name, byte, is_band, is_name, wrong_position, band_in, name_in, present, record_of, record_at}
 use Rattle.records.specs.Reading.{InPlace}
 use Rattle.records.specs.OneRecord.{ReadAs}
 
@@ -26,42 +27,22 @@ module _ (bytes : List ℕ) (at : ℕ) where
   -- the three cases, by how many bytes are left
   pub by_left : ((length bytes ≤ at) × (record_at bytes at ≡ Ok None)) ⊎ (((at < length bytes) × (length bytes - at < 12) × (record_at bytes at ≡ Err (Partial (length bytes - at)))) ⊎ ((at + 12 ≤ length bytes) × (record_at bytes at ≡ present (record_of (take 12 (drop at bytes)) at))))
   by_left =
-      ⊎_elim
-      (λ (some : at < length bytes).
-      ⊎_elim
-      (λ (few : length bytes - at < 12). inr (inl (some, few, at_partial some few)))
-      (λ (whole : 12 ≤ length bytes - at). let fits : at + 12 ≤ length bytes = omega arith in inr (inr (fits, at_record fits)))
-      (cases_lt (length bytes - at) 12))
-      (λ (none : length bytes ≤ at). inl (none, at_end none))
-      (cases_lt at (length bytes))
+      let end = at_end in
+      let few = at_partial in
+      let whole = at_record in
+      grind (arith, nat_tests)
 
 -- twelve bytes that are read are nowhere wrong, and are a band or a name
 pub told : (r : List ℕ) (at : ℕ) {e : Entry} → record_of r at ≡ Ok e → (wrong_position r ≡ None) × (((is_band r ≡ true) × (e ≡ band_in r)) ⊎ ((is_name r ≡ true) × (e ≡ name_in r at)))
-told r at {e} = by_cases (is_band r) (is_name r) (wrong_position r)
-  where
-    by_cases : (band other : Bool) (wrong : Option ℕ) → cond (band || other) (unless_wrong wrong (cond band (band_in r) (name_in r at))) (Err (UnknownKind (byte r 0))) ≡ Ok e → (wrong ≡ None) × (((band ≡ true) × (e ≡ band_in r)) ⊎ ((other ≡ true) × (e ≡ name_in r at)))
-    by_cases true other None same = (refl, inl (refl, cc))
-    by_cases false true None same = (refl, inr (refl, cc))
-    by_cases true other (Some q) same = let z : ◌≡◌ {A = ℕ} 0 1 = cc in absurd (omega arith)
-    by_cases false true (Some q) same = let z : ◌≡◌ {A = ℕ} 0 1 = cc in absurd (omega arith)
-    by_cases false false wrong same = let z : ◌≡◌ {A = ℕ} 0 1 = cc in absurd (omega arith)
+told r at here = grind (arith, nat_tests)
 
 -- twelve bytes that are refused are of no known kind, or have a lowest wrong position
 pub refused : (r : List ℕ) (at : ℕ) {f : RecordFault} → record_of r at ≡ Err f → ((is_band r || is_name r ≡ false) × (f ≡ UnknownKind (byte r 0))) ⊎ ((is_band r || is_name r ≡ true) × ((p : ℕ) × (wrong_position r ≡ Some p) × (f ≡ WrongByte p)))
-refused r at {f} = by_cases (is_band r || is_name r) (wrong_position r)
-  where
-    by_cases : (known : Bool) (wrong : Option ℕ) → cond known (unless_wrong wrong (cond (is_band r) (band_in r) (name_in r at))) (Err (UnknownKind (byte r 0))) ≡ Err f → ((known ≡ false) × (f ≡ UnknownKind (byte r 0))) ⊎ ((known ≡ true) × ((p : ℕ) × (wrong ≡ Some p) × (f ≡ WrongByte p)))
-    by_cases false wrong same = inl (refl, cc)
-    by_cases true None same = let z : ◌≡◌ {A = ℕ} 0 1 = cc in absurd (omega arith)
-    by_cases true (Some p) same = inr (refl, (p, refl, cc))
+refused r at here = grind (arith, nat_tests)
 
 -- a name begins four bytes after its record
 name_place : (r : List ℕ) (at : ℕ) {s p : ℕ} {bs : List ℕ} → record_of r at ≡ Ok (name s p bs) → p ≡ at + 4
-name_place r at {s} {p} {bs} here =
-    ⊎_elim
-    (λ (band : (is_band r ≡ true) × (name s p bs ≡ band_in r)). let is = band.1 in let z : ◌≡◌ {A = ℕ} 0 1 = cc in absurd (omega arith))
-    (λ (other : (is_name r ≡ true) × (name s p bs ≡ name_in r at)). let is = other.1 in cc)
-    (told r at here).1
+name_place r at here = let is = (told r at here).1 in grind (arith, nat_tests)
 
 -- a name in the record r, which begins at `at` in the input, lies in the input at its place
 pub in_place : (origin : ℕ × ℕ) (at : ℕ) (r : Bor (List ℕ)) → r.ref_ptr ≡ (origin.0, at + origin.1) → (x : Record) → ReadAs r (record_of r.now at) (Ok x) → InPlace origin x

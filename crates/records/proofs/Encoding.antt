@@ -1,11 +1,14 @@
 -- A record is found exactly where its bytes stand.
-use Rattle.std.proofs.Common.{◌≡◌, ℕ, zero, suc, ◌+◌, ◌-◌, ◌*◌, ◌/◌, ◌%◌, ◌^◌, ◌<◌, ◌≤◌, true, false, ◌||◌, leb, List, [], ◌∷◌, ◌++◌, length, take, drop, replicate, Some, None, Ok, Err, Option, Result, sym, refl, ap, ◌∙◌, subst, ⊎_elim, add-zero, add-one, arith}
+use Rattle.std.proofs.Common.{◌≡◌, ℕ, zero, suc, ◌+◌, ◌-◌, ◌*◌, ◌/◌, ◌%◌, ◌^◌, ◌<◌, ◌≤◌, true, false, ◌||◌, List, [], ◌∷◌, ◌++◌, length, take, drop, replicate, Some, None, Ok, Err, Option, Result, sym, refl, ap, ◌∙◌, subst, ⊎_elim, add-zero, add-one, arith, Bor}
 use Rattle.std.proofs.lemmas.List.{drop_all, drop-drop, drop_more, get_or-append_right, get_or-drop, get_or-replicate, get_or-take, length-append, length-drop, length-replicate, length-take, take-append-drop, take_at}
-use Rattle.std.proofs.lemmas.Bool.{and_from, and_parts, eqb-false, eqb-true, leb-true, le-leb, or_parts}
+use Rattle.std.proofs.lemmas.Bool.Decides.{nat_tests}
+use Rattle.std.proofs.lemmas.Bool.{eqb-false, eqb-true, or_parts}
 use Rattle.records.specs.declared.fault.RecordFault.{RecordFault}
 use Rattle.records.specs.declared.fault.RecordFault.TheVariants.{Partial, UnknownKind, WrongByte}
+use Rattle.records.specs.declared.record.Record.{Record}
 use Rattle.records.specs.Encoding.{little_endian, encoded, Sayable, Says, Told, Tells}
 use Rattle.records.specs.Format.{Entry, band, name, byte, number, name_length, is_band, is_name, wrong_position, band_in, name_in, present, record_of, record_at}
+use Rattle.records.specs.Reading.{answered, NoCopy, past, StandsAt}
 use Rattle.records.proofs.Cursor.{at_record, by_left, told, refused}
 use Rattle.records.proofs.Positions.{wrong_tells, third_right, length_right, filler_right, band_right, name_right}
 
@@ -43,7 +46,7 @@ number_from : (n : ℕ) → n < 2 ^ 32 → n % 256 + n / 256 % 256 * 256 + n / 2
 number_from n fits = omega arith
 
 length_is : (n : ℕ) → name_length n ≡ true → (1 ≤ n) × (n ≤ 8)
-length_is n good = let both = and_parts (leb 1 n) (leb n 8) good in (leb-true 1 n both.0, leb-true n 8 both.1)
+length_is n good = grind (arith, nat_tests)
 
 -- twelve bytes that are nowhere wrong
 module _ (r : List ℕ) (long : length r ≡ 12) (typed : (i : ℕ) → i < 12 → byte r i < 2 ^ 8) (right : wrong_position r ≡ None) (at : ℕ) where
@@ -84,7 +87,7 @@ name_read : (s : ℕ) (bs : List ℕ) (at : ℕ) → 1 ≤ length bs → length 
 name_read s bs at some few =
     let r : List ℕ = encoded (name s (at + 4) bs) in
     let head : List ℕ = 0x4E ∷ s ∷ length bs ∷ 0 ∷ bs in
-    let good : name_length (length bs) ≡ true = and_from (leb 1 (length bs)) (leb (length bs) 8) (le-leb 1 (length bs) some) (le-leb (length bs) 8 few) in
+    let good : name_length (length bs) ≡ true = grind (arith, nat_tests) in
     let zeros : (k : ℕ) → 4 + length bs ≤ k → k < 12 → byte r k ≡ 0 = λ k lo hi. get_or-append_right head (replicate (8 - length bs) 0) (4 + length bs) k 0 (omega arith) lo ∙ get_or-replicate (8 - length bs) (k - (4 + length bs)) 0 0 (omega arith) in
     rw (name_right r refl good refl zeros) (ap (λ (b : List ℕ). Ok (name s (at + 4) b)) (take_at bs (replicate (8 - length bs) 0) (length bs) refl))
 
@@ -153,3 +156,7 @@ module _ (bytes : List ℕ) (at : ℕ) (typed : (i : ℕ) → byte bytes i < 2 ^
 
   pub tells : (answer : Result (Option Entry) RecordFault) → answer ≡ record_at bytes at → Tells bytes at answer
   tells answer is = subst (Tells bytes at) (sym is) record { told = told_at; finds = finds bytes at }
+
+-- what an answer must be to say what stands at a cursor; what it tells of the bytes follows
+pub stands : (input : Bor (List ℕ)) (at : ℕ) → ((i : ℕ) → byte input.now i < 2 ^ 8) → (r : Result (Option Record) RecordFault) → answered r ≡ record_at input.now at → NoCopy input.ref_ptr r → past at r < 2 ^ 64 → StandsAt input at r
+stands input at typed r answer in_place within = record { answer = answer; tells = tells input.now at typed _ answer; in_place = in_place; within = within }

@@ -1,5 +1,5 @@
 -- The format from the other side: the twelve bytes that say an entry, and what each answer of the reader tells of the bytes.
-use Rattle.std.specs.Prelude.{◌≡◌, ℕ, zero, suc, ◌+◌, ◌-◌, ◌/◌, ◌%◌, ◌^◌, ◌<◌, ◌≤◌, true, false, ◌||◌, List, [], ◌∷◌, ◌++◌, length, take, drop, replicate, Some, None, Ok, Err, Option, Result, ◌≢◌}
+use Rattle.std.specs.Prelude.{◌≡◌, ℕ, zero, suc, ◌+◌, ◌-◌, ◌/◌, ◌%◌, ◌^◌, ◌<◌, ◌≤◌, IsTrue, IsFalse, ◌||◌, List, [], ◌∷◌, ◌++◌, length, take, drop, replicate, Some, None, Ok, Err, Option, Result, ◌≢◌}
 use Rattle.records.specs.declared.fault.RecordFault.{RecordFault}
 use Rattle.records.specs.declared.fault.RecordFault.TheVariants.{Partial, UnknownKind, WrongByte}
 use Rattle.records.specs.Format.{Entry, band, name, byte, is_band, is_name, wrong_at}
@@ -24,10 +24,10 @@ Says bytes at e = Sayable e at × (take 12 (drop at bytes) ≡ encoded e)
 
 -- twelve bytes of a known kind whose lowest wrong position is p
 pub record FirstWrong (r : List ℕ) (p : ℕ) : Type 0 where
-  pub known : (is_band r || is_name r) ≡ true
+  pub known : IsTrue (is_band r || is_name r)
   pub within : p < 12
-  pub wrong : wrong_at r p ≡ true
-  pub right : (k : ℕ) → k < p → wrong_at r k ≡ false
+  pub wrong : IsTrue (wrong_at r p)
+  pub right : (k : ℕ) → k < p → IsFalse (wrong_at r k)
 
 -- what each answer at `at` tells of the bytes
 abbrev pub Told : List ℕ → ℕ → Result (Option Entry) RecordFault → Type 0

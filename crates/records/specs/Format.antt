@@ -1,5 +1,5 @@
 -- The record format: what twelve bytes hold, where they are wrong, and what stands at a cursor.
-use Rattle.std.specs.Prelude.{ℕ, zero, suc, ◌+◌, ◌*◌, Bool, cond, not, ◌&&◌, ◌||◌, List, length, take, drop, Some, None, Ok, Err, Option, Result, ◌==◌, nat_le, nat_lt, slice_index}
+use Rattle.std.specs.Prelude.{ℕ, zero, suc, ◌+◌, ◌*◌, Bool, not, ◌&&◌, ◌||◌, List, length, take, drop, Some, None, Ok, Err, Option, Result, ◌==◌, nat_le, nat_lt, slice_index, if◌then◌else◌}
 use Rattle.records.specs.declared.fault.RecordFault.{RecordFault}
 use Rattle.records.specs.declared.fault.RecordFault.TheVariants.{Partial, UnknownKind, WrongByte}
 
@@ -38,7 +38,7 @@ wrong_at r p = (must_be_zero r p && not (byte r p == 0)) || (p == 2 && wrong_len
 -- the lowest of the n numbers from p on that passes a test
 unfoldable pub lowest : (ℕ → Bool) → ℕ → ℕ → Option ℕ
 lowest test p zero = None
-lowest test p (suc n) = cond (test p) (Some p) (lowest test (suc p) n)
+lowest test p (suc n) = if test p then Some p else lowest test (suc p) n
 
 abbrev pub wrong_position : List ℕ → Option ℕ
 wrong_position r = lowest (wrong_at r) 0 12
@@ -55,7 +55,7 @@ unless_wrong None e = Ok e
 unless_wrong (Some p) e = Err (WrongByte p)
 
 abbrev pub record_of : List ℕ → ℕ → Result Entry RecordFault
-record_of r at = cond (is_band r || is_name r) (unless_wrong (wrong_position r) (cond (is_band r) (band_in r) (name_in r at))) (Err (UnknownKind (byte r 0)))
+record_of r at = if is_band r || is_name r then unless_wrong (wrong_position r) (if is_band r then band_in r else name_in r at) else Err (UnknownKind (byte r 0))
 
 abbrev pub present : Result Entry RecordFault → Result (Option Entry) RecordFault
 present (Ok e) = Ok (Some e)
@@ -65,4 +65,4 @@ present (Err f) = Err f
 abbrev pub record_at : List ℕ → ℕ → Result (Option Entry) RecordFault
 record_at bytes at =
     let rest : List ℕ = drop at bytes in
-    cond (length rest == 0) (Ok None) (cond (nat_lt (length rest) 12) (Err (Partial (length rest))) (present (record_of (take 12 rest) at)))
+    if length rest == 0 then Ok None else (if nat_lt (length rest) 12 then Err (Partial (length rest)) else present (record_of (take 12 rest) at))

@@ -25,11 +25,11 @@ impl Counts {
         match entry {
             Record::Band { .. } => Counts {
                 bands: self.bands.saturating_add(1),
-                names: self.names,
+                ..self
             },
             Record::Name { .. } => Counts {
-                bands: self.bands,
                 names: self.names.saturating_add(1),
+                ..self
             },
         }
     }

@@ -69,7 +69,7 @@ fn number_at(bytes: &[u8], p: usize) -> u32
     requires { p + 4 ≤ length bytes.now }
     ensures { result ≡ number bytes.now p }
 {
-    u32::from_le_bytes([bytes[p], bytes[p + 1], bytes[p + 2], bytes[p + 3]])
+    u32::from_le_bytes(*bytes[p..].first_chunk().unwrap())
 }
 
 fn name_record(bytes: &[u8], at: usize) -> Result<Record<'_>, RecordFault>
@@ -99,18 +99,12 @@ fn name_record(bytes: &[u8], at: usize) -> Result<Record<'_>, RecordFault>
 fn is_name_length(length: u8) -> bool
     ensures { result ≡ name_length length }
 {
-    // `&` has no branch, so the proof has one way.
-    (1 <= length) & (length <= 8)
+    (1..=8).contains(&length)
 }
 
 /// The lowest position from `from` on whose byte is not 00.
 fn first_nonzero(bytes: &[u8], from: usize) -> Option<usize>
     ensures { FirstNonzero bytes.now from result }
 {
-    for p in from..bytes.len() {
-        if bytes[p] != 0 {
-            return Some(p);
-        }
-    }
-    None
+    (from..bytes.len()).find(|p| bytes[*p] != 0)
 }

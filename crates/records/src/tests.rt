@@ -4,6 +4,7 @@ use crate::fault::RecordFault;
 use crate::reader::Reader;
 use crate::record::Record;
 use refusals::Refusal;
+use std::process::Abort;
 use std::test::Fail;
 
 const BAND: [u8; 12] = [
@@ -13,11 +14,7 @@ const BAND: [u8; 12] = [
 const NAME: [u8; 12] = [0x4E, 9, 3, 0, 0x61, 0, 0xff, 0, 0, 0, 0, 0];
 
 fn fault_in(bytes: &[u8]) -> Option<RecordFault> {
-    let mut reader = Reader::new(bytes);
-    match reader.next() {
-        Ok(_) => None,
-        Err(fault) => Some(fault),
-    }
+    Reader::new(bytes).next().err()
 }
 
 #[test]
@@ -31,22 +28,21 @@ fn an_empty_input_has_no_record(rt: HostRuntime) -> Result<(), Fail> {
 #[test]
 fn a_band_has_its_least_significant_byte_first(rt: HostRuntime) -> Result<(), Fail> {
     let mut reader = Reader::new(&BAND);
-    match reader.next()? {
-        Some(
-            Record::Band {
-                source,
-                target,
-                low,
-                high,
-            },
-        ) => {
-            assert_eq!(rt; source, 1);
-            assert_eq!(rt; target, 2);
-            assert_eq!(rt; low, 0x1234_5678);
-            assert_eq!(rt; high, 0xffff_ffff);
-        }
-        _ => return Err(Fail::new("no band")),
-    }
+    let Some(
+        Record::Band {
+            source,
+            target,
+            low,
+            high,
+        },
+    ) = reader.next()?
+    else {
+        return Err(Fail::new("no band"));
+    };
+    assert_eq!(rt; source, 1);
+    assert_eq!(rt; target, 2);
+    assert_eq!(rt; low, 0x1234_5678);
+    assert_eq!(rt; high, 0xffff_ffff);
     assert_eq!(rt; reader.cursor, 12);
     assert!(rt; reader.next()?.is_none());
     assert_eq!(rt; reader.cursor, 12);
@@ -60,14 +56,12 @@ fn a_name_is_a_part_of_the_input(rt: HostRuntime) -> Result<(), Fail> {
     bytes[12..24].copy_from_slice(&NAME);
     let mut reader = Reader::new(&bytes);
     assert!(rt; reader.next()?.is_some());
-    match reader.next()? {
-        Some(Record::Name { state, place, name }) => {
-            assert_eq!(rt; state, 9);
-            assert_eq!(rt; place, 16);
-            assert!(rt; name == &bytes[16..19]);
-        }
-        _ => return Err(Fail::new("no name")),
-    }
+    let Some(Record::Name { state, place, name }) = reader.next()? else {
+        return Err(Fail::new("no name"));
+    };
+    assert_eq!(rt; state, 9);
+    assert_eq!(rt; place, 16);
+    assert!(rt; name == &bytes[16..19]);
     assert_eq!(rt; reader.cursor, 24);
     Ok(())
 }
@@ -79,10 +73,10 @@ fn a_name_has_one_to_eight_bytes(rt: HostRuntime) -> Result<(), Fail> {
         bytes[0] = 0x4E;
         bytes[2] = length;
         let mut reader = Reader::new(&bytes);
-        match reader.next()? {
-            Some(Record::Name { name, .. }) => assert_eq!(rt; name.len(), usize::from(length)),
-            _ => return Err(Fail::new("no name")),
-        }
+        let Some(Record::Name { name, .. }) = reader.next()? else {
+            return Err(Fail::new("no name"));
+        };
+        assert_eq!(rt; name.len(), usize::from(length));
     }
     Ok(())
 }
@@ -116,11 +110,7 @@ fn a_band_is_wrong_only_at_byte_3(rt: HostRuntime) {
     for position in 1..12 {
         let mut bytes = BAND;
         bytes[position] = 0x80;
-        let fault = if position == 3 {
-            Some(RecordFault::WrongByte { position })
-        } else {
-            None
-        };
+        let fault = (position == 3).then_some(RecordFault::WrongByte { position });
         assert_eq!(rt; fault_in(&bytes), fault);
     }
 }
@@ -134,24 +124,29 @@ fn a_wrong_name_length_is_below_every_filler(rt: HostRuntime) {
     }
 }
 
-#[test]
-fn the_lowest_wrong_filler_counts(rt: HostRuntime) {
-    for pair in 0..88usize {
-        let length = 1 + pair / 11;
-        let wrong = 1 + pair % 11;
+/// Sees the fault in names of this length with bytes of 01 at a position and at 11.
+fn lowest_counts(rt: &impl Abort, length: u8) {
+    for wrong in 1..12 {
         let mut bytes = [0u8; 12];
         bytes[0] = 0x4E;
         bytes[wrong] = 1;
         bytes[11] = 1;
-        bytes[2] = length as u8;
-        let filler = wrong == 3 || wrong >= 4 + length;
-        let last = length < 8;
-        let fault = match (filler, last) {
-            (true, _) => Some(RecordFault::WrongByte { position: wrong }),
-            (false, true) => Some(RecordFault::WrongByte { position: 11 }),
-            (false, false) => None,
+        bytes[2] = length;
+        let filler = wrong == 3 || wrong >= 4 + usize::from(length);
+        let lowest = if filler {
+            Some(wrong)
+        } else {
+            (length < 8).then_some(11)
         };
+        let fault = lowest.map(|position| RecordFault::WrongByte { position });
         assert_eq!(rt; fault_in(&bytes), fault);
+    }
+}
+
+#[test]
+fn the_lowest_wrong_filler_counts(rt: HostRuntime) {
+    for length in 1..9 {
+        lowest_counts(&rt, length);
     }
 }
 

@@ -17,10 +17,10 @@ fn a_band_takes_the_place_of_that_of_its_pair(rt: HostRuntime) -> Result<(), Fai
     let mut table = Table::open(&mut band_places, &mut rank_places);
     make_falling(&rt, &mut table)?;
     set(&mut table, (0, 1, 262_144, FULL))?;
-    check_finds(&rt, &mut table, (3, 1, 1), None)?;
+    check_finds(&rt, &mut table, (3, 1, 1, None))?;
     fates_are(&rt, &mut table, &[None, None, SHORT])?;
     set(&mut table, (0, 1, 262_144, 524_288))?;
-    check_finds(&rt, &mut table, (3, 2, 2), Some(2))?;
+    check_finds(&rt, &mut table, (3, 2, 2, Some(2)))?;
     fates_are(&rt, &mut table, &FALLING_FATES)
 }
 
@@ -36,39 +36,30 @@ fn each_band_can_be_removed_and_set_again(rt: HostRuntime) -> Result<(), Fail> {
         set(&mut table, (2, 0, 0, 1))?;
         set(&mut table, (2, 0, 0, 0))?;
         set(&mut table, given)?;
-        check_finds(&rt, &mut table, (3, 2, 2), Some(2))?;
+        check_finds(&rt, &mut table, (3, 2, 2, Some(2)))?;
         fates_are(&rt, &mut table, &FALLING_FATES)?;
     }
     Ok(())
 }
 
 /// Makes the falling table without one of its bands, and sees what a check finds.
-fn without(
-    rt: &impl Abort,
-    given: Given,
-    found: (usize, usize, usize),
-    fates: &[Fate; 3],
-) -> Result<(), Fail> {
+fn without(rt: &impl Abort, given: Given, found: Found, fates: &[Fate; 3]) -> Result<(), Fail> {
     let mut band_places = [UNUSED; 4];
     let mut rank_places = [9u16; 3];
     let mut table = Table::open(&mut band_places, &mut rank_places);
     make_falling(rt, &mut table)?;
     set(&mut table, (given.0, given.1, 0, 0))?;
-    let start = match fates[0] {
-        Some((rank, _)) => Some(rank),
-        None => None,
-    };
-    check_finds(rt, &mut table, found, start)?;
+    check_finds(rt, &mut table, found)?;
     fates_are(rt, &mut table, fates)
 }
 
 #[test]
 fn a_removed_band_is_nothing_to_nothing(rt: HostRuntime) -> Result<(), Fail> {
-    without(&rt, FALLING[0], (3, 2, 2), &FALLING_FATES)?;
-    without(&rt, FALLING[1], (3, 2, 1), &[SHORT, None, SHORT])?;
+    without(&rt, FALLING[0], (3, 2, 2, Some(2)), &FALLING_FATES)?;
+    without(&rt, FALLING[1], (3, 2, 1, Some(1)), &[SHORT, None, SHORT])?;
     let lost = Some((2, Reason::Lost { target: 1 }));
-    without(&rt, FALLING[2], (3, 3, 2), &[lost, SHORT, SHORT])?;
-    without(&rt, FALLING[3], (3, 2, 2), &FALLING_FATES)
+    without(&rt, FALLING[2], (3, 3, 2, Some(2)), &[lost, SHORT, SHORT])?;
+    without(&rt, FALLING[3], (3, 2, 2, Some(2)), &FALLING_FATES)
 }
 
 const ORDERS: [[usize; 4]; 24] = [
@@ -116,7 +107,7 @@ fn bands_may_come_in_any_order(rt: HostRuntime) -> Result<(), Fail> {
     for order in ORDERS {
         table.size(3, 0)?;
         set_in_order(&mut table, &order)?;
-        check_finds(&rt, &mut table, (3, 2, 2), Some(2))?;
+        check_finds(&rt, &mut table, (3, 2, 2, Some(2)))?;
         fates_are(&rt, &mut table, &FALLING_FATES)?;
     }
     Ok(())
@@ -139,7 +130,7 @@ fn bands_may_go_in_any_order(rt: HostRuntime) -> Result<(), Fail> {
     for order in ORDERS {
         set_all(&mut table, &FALLING)?;
         remove_in_order(&mut table, &order)?;
-        check_finds(&rt, &mut table, (3, 3, 1), Some(1))?;
+        check_finds(&rt, &mut table, (3, 3, 1, Some(1)))?;
         fates_are(&rt, &mut table, &[SHORT, SHORT, SHORT])?;
     }
     Ok(())
@@ -160,12 +151,12 @@ fn at_full_only_a_held_pair_is_set(rt: HostRuntime) -> Result<(), Fail> {
     // Nothing for a new pair takes no place.
     assert_eq!(rt; set(&mut table, (1, 1, 0, 0)), Ok(()));
     assert_eq!(rt; set(&mut table, (2, 2, FULL, FULL)), Ok(()));
-    check_finds(&rt, &mut table, (3, 1, 1), None)?;
+    check_finds(&rt, &mut table, (3, 1, 1, None))?;
     fates_are(&rt, &mut table, &[None, SHORT, None])?;
     assert_eq!(rt; set(&mut table, (0, 0, 0, 0)), Ok(()));
     assert_eq!(rt; set(&mut table, (1, 1, FULL, FULL)), Ok(()));
     assert_eq!(rt; set(&mut table, (0, 0, FULL, FULL)), full);
-    check_finds(&rt, &mut table, (3, 1, 1), Some(1))?;
+    check_finds(&rt, &mut table, (3, 1, 1, Some(1)))?;
     fates_are(&rt, &mut table, &[SHORT, None, None])
 }
 
@@ -192,7 +183,7 @@ fn without_band_places_only_nothing_is_set(rt: HostRuntime) -> Result<(), Fail> 
     table.size(1, 0)?;
     assert_eq!(rt; set(&mut table, (0, 0, 0, 1)), Err(Refusal::NoFreePlace));
     assert_eq!(rt; set(&mut table, (0, 0, 0, 0)), Ok(()));
-    check_finds(&rt, &mut table, (1, 1, 1), Some(1))
+    check_finds(&rt, &mut table, (1, 1, 1, Some(1)))
 }
 
 #[test]
@@ -203,7 +194,7 @@ fn a_size_frees_every_place(rt: HostRuntime) -> Result<(), Fail> {
     for start in 0..4 {
         make_falling(&rt, &mut table)?;
         table.size(4, start)?;
-        check_finds(&rt, &mut table, (4, 4, 1), Some(1))?;
+        check_finds(&rt, &mut table, (4, 4, 1, Some(1)))?;
         fates_are(&rt, &mut table, &[SHORT; 4])?;
         set_all(
             &mut table,
@@ -214,27 +205,31 @@ fn a_size_frees_every_place(rt: HostRuntime) -> Result<(), Fail> {
                 (0, 1, FULL, FULL),
             ],
         )?;
-        check_finds(&rt, &mut table, (4, 0, 0), None)?;
+        check_finds(&rt, &mut table, (4, 0, 0, None))?;
     }
     Ok(())
 }
 
-/// Sets the bands of 64 states to each of them, 4,096 in all, whose highs just come to full.
-fn set_square(table: &mut Table<'_, Share>) -> Result<(), Fail> {
-    for pair in 0..4_096usize {
-        set(table, (pair % 64, pair / 64, 0, 16_384))?;
+/// Sets the bands of the first states, as many as `sources`, to one target.
+fn set_column(table: &mut Table<'_, Share>, target: usize, sources: usize) -> Result<(), Refusal> {
+    for source in 0..sources {
+        set(table, (source, target, 0, 16_384))?;
+    }
+    Ok(())
+}
+
+/// Sets the bands of 64 states to as many targets. With 64 of these, 4,096 in all, their highs just come to full.
+fn set_columns(table: &mut Table<'_, Share>, targets: usize) -> Result<(), Refusal> {
+    for target in 0..targets {
+        set_column(table, target, 64)?;
     }
     Ok(())
 }
 
 fn untouched(bands: &[Band<Share>]) -> bool {
-    for band in bands {
-        let same = band.source == 7 && band.target == 7;
-        if !same || band.low.number != 7 || band.high.number != 7 {
-            return false;
-        }
-    }
-    true
+    bands.iter().all(|band| {
+        band.source == 7 && band.target == 7 && band.low.number == 7 && band.high.number == 7
+    })
 }
 
 #[test]
@@ -243,22 +238,22 @@ fn a_table_uses_4096_band_places(rt: HostRuntime) -> Result<(), Fail> {
     let mut rank_places = [9u16; 65];
     let mut table = Table::open(&mut band_places, &mut rank_places);
     table.size(65, 64)?;
-    set_square(&mut table)?;
+    set_columns(&mut table, 64)?;
     let full = Err(Refusal::NoFreePlace);
     assert_eq!(rt; set(&mut table, (64, 64, FULL, FULL)), full);
     assert_eq!(rt; set(&mut table, (0, 64, 0, 1)), full);
     assert_eq!(rt; set(&mut table, (64, 64, 0, 0)), Ok(()));
-    check_finds(&rt, &mut table, (65, 1, 1), Some(1))?;
+    check_finds(&rt, &mut table, (65, 1, 1, Some(1)))?;
     // One high is less, so that state 5 falls, and all that lean on it.
     assert_eq!(rt; set(&mut table, (5, 63, 0, 16_383)), Ok(()));
-    check_finds(&rt, &mut table, (65, 65, 2), Some(1))?;
+    check_finds(&rt, &mut table, (65, 65, 2, Some(1)))?;
     fate_is(&rt, &mut table, 5, SHORT)?;
     fate_is(&rt, &mut table, 63, Some((2, Reason::ShortOfFull)))?;
     // The place of a removed pair is for another one.
     assert_eq!(rt; set(&mut table, (5, 63, 0, 0)), Ok(()));
     assert_eq!(rt; set(&mut table, (64, 64, FULL, FULL)), Ok(()));
     assert_eq!(rt; set(&mut table, (5, 63, 0, 16_384)), full);
-    check_finds(&rt, &mut table, (65, 64, 2), None)?;
+    check_finds(&rt, &mut table, (65, 64, 2, None))?;
     assert!(rt; untouched(&band_places[4_096..]));
     Ok(())
 }
@@ -269,19 +264,14 @@ fn one_place_fewer_is_one_band_fewer(rt: HostRuntime) -> Result<(), Fail> {
     let mut rank_places = [9u16; 64];
     let mut table = Table::open(&mut band_places, &mut rank_places);
     table.size(64, 0)?;
-    assert!(rt; set_square_is_refused(&mut table));
+    set_columns(&mut table, 63)?;
+    set_column(&mut table, 63, 63)?;
+    assert_eq!(rt;
+        set(&mut table, (63, 63, 0, 16_384)),
+        Err(Refusal::NoFreePlace)
+    );
     // The last pair is not held, so state 63 falls, and then all others.
-    check_finds(&rt, &mut table, (64, 64, 2), Some(2))?;
+    check_finds(&rt, &mut table, (64, 64, 2, Some(2)))?;
     fate_is(&rt, &mut table, 62, Some((2, Reason::ShortOfFull)))?;
     fate_is(&rt, &mut table, 63, SHORT)
-}
-
-/// Whether just the last band of the square is refused.
-fn set_square_is_refused(table: &mut Table<'_, Share>) -> bool {
-    for pair in 0..4_095usize {
-        if set(table, (pair % 64, pair / 64, 0, 16_384)).is_err() {
-            return false;
-        }
-    }
-    set(table, (63, 63, 0, 16_384)) == Err(Refusal::NoFreePlace)
 }

@@ -24,6 +24,9 @@ pub(crate) type Given = (usize, usize, u32, u32);
 /// The rank and the reason of a state, or none if it stands.
 pub(crate) type Fate = Option<(u16, Reason)>;
 
+/// What a check finds, as the tests write it: the states, how many of them fell, in how many rounds, and the rank of the start.
+pub(crate) type Found = (usize, usize, usize, Option<u16>);
+
 /// Three states: 2 cannot come to full and falls, and then 0 cannot, which leant on it. State 1 stands.
 pub(crate) const FALLING: [Given; 4] = [
     (0, 1, 262_144, 524_288),
@@ -60,21 +63,23 @@ pub(crate) fn set_all(table: &mut Table<'_, Share>, bands: &[Given]) -> Result<(
 pub(crate) fn make_falling(rt: &impl Abort, table: &mut Table<'_, Share>) -> Result<(), Fail> {
     table.size(3, 0)?;
     set_all(table, &FALLING)?;
-    check_finds(rt, table, (3, 2, 2), Some(2))
+    check_finds(rt, table, (3, 2, 2, Some(2)))
 }
 
-/// Checks the table, and sees its states, how many of them fell and in how many rounds, and the rank of the start.
+/// Checks the table, and sees what that finds.
 pub(crate) fn check_finds<K: Amount>(
     rt: &impl Abort,
     table: &mut Table<'_, K>,
-    found: (usize, usize, usize),
-    start: Option<u16>,
+    found: Found,
 ) -> Result<(), Fail> {
     let verdict = table.check()?;
-    assert_eq!(rt; verdict.states, found.0);
-    assert_eq!(rt; verdict.removed, found.1);
-    assert_eq!(rt; verdict.rounds, found.2);
-    assert_eq!(rt; verdict.start, start);
+    let finds = (
+        verdict.states,
+        verdict.removed,
+        verdict.rounds,
+        verdict.start,
+    );
+    assert_eq!(rt; finds, found);
     Ok(())
 }
 
@@ -84,8 +89,8 @@ pub(crate) fn fates_are<K: Amount>(
     table: &mut Table<'_, K>,
     fates: &[Fate],
 ) -> Result<(), Fail> {
-    for state in 0..fates.len() {
-        fate_is(rt, table, state, fates[state])?;
+    for (state, fate) in fates.iter().enumerate() {
+        fate_is(rt, table, state, *fate)?;
     }
     Ok(())
 }
@@ -96,18 +101,11 @@ pub(crate) fn fate_is<K: Amount>(
     state: usize,
     fate: Fate,
 ) -> Result<(), Fail> {
-    match fate {
-        Some((rank, reason)) => {
-            assert_eq!(rt; table.rank(state), Ok(Some(rank)));
-            assert_eq!(rt; table.reason(state), Ok(reason));
-            Ok(())
-        }
-        None => {
-            assert_eq!(rt; table.rank(state), Ok(None));
-            assert_eq!(rt; table.reason(state), Err(Refusal::Standing));
-            Ok(())
-        }
-    }
+    let rank = fate.map(|(rank, _)| rank);
+    let reason = fate.map(|(_, reason)| reason);
+    assert_eq!(rt; table.rank(state), Ok(rank));
+    assert_eq!(rt; table.reason(state), reason.ok_or(Refusal::Standing));
+    Ok(())
 }
 
 /// Sees that a table of three states has no verdict in force.

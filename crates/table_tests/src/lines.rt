@@ -24,22 +24,13 @@ fn line_fell(rt: &impl Abort, table: &mut Table<'_, Share>) -> Result<(), Fail> 
     fate_is(rt, table, 255, Some((1, Reason::ShortOfFull)))
 }
 
-fn unchanged(places: &[u16]) -> bool {
-    for rank in places {
-        if *rank != 9 {
-            return false;
-        }
-    }
-    true
-}
-
 #[test]
 fn a_line_falls_one_state_a_round(rt: HostRuntime) -> Result<(), Fail> {
     let mut band_places = [UNUSED; 255];
     let mut rank_places = [9u16; 256];
     let mut table = Table::open(&mut band_places, &mut rank_places);
     make_line(&mut table, 0)?;
-    check_finds(&rt, &mut table, (256, 256, 256), Some(256))?;
+    check_finds(&rt, &mut table, (256, 256, 256, Some(256)))?;
     line_fell(&rt, &mut table)
 }
 
@@ -50,7 +41,7 @@ fn each_start_has_its_rank_in_the_line(rt: HostRuntime) -> Result<(), Fail> {
     let mut table = Table::open(&mut band_places, &mut rank_places);
     for (start, rank) in [(0, 256), (1, 255), (100, 156), (254, 2), (255, 1)] {
         make_line(&mut table, start)?;
-        check_finds(&rt, &mut table, (256, 256, 256), Some(rank))?;
+        check_finds(&rt, &mut table, (256, 256, 256, Some(rank)))?;
     }
     Ok(())
 }
@@ -80,7 +71,7 @@ fn a_line_back_takes_as_many_rounds(rt: HostRuntime) -> Result<(), Fail> {
     let mut rank_places = [9u16; 256];
     let mut table = Table::open(&mut band_places, &mut rank_places);
     make_line_back(&mut table)?;
-    check_finds(&rt, &mut table, (256, 256, 256), Some(256))?;
+    check_finds(&rt, &mut table, (256, 256, 256, Some(256)))?;
     line_back_fell(&rt, &mut table)
 }
 
@@ -97,9 +88,9 @@ fn a_line_whose_end_stands_stands(rt: HostRuntime) -> Result<(), Fail> {
     let mut rank_places = [9u16; 256];
     let mut table = Table::open(&mut band_places, &mut rank_places);
     make_line(&mut table, 0)?;
-    check_finds(&rt, &mut table, (256, 256, 256), Some(256))?;
+    check_finds(&rt, &mut table, (256, 256, 256, Some(256)))?;
     set(&mut table, (255, 255, FULL, FULL))?;
-    check_finds(&rt, &mut table, (256, 0, 0), None)?;
+    check_finds(&rt, &mut table, (256, 0, 0, None))?;
     all_stand(&rt, &mut table)
 }
 
@@ -109,9 +100,9 @@ fn rank_places_past_256_are_left(rt: HostRuntime) -> Result<(), Fail> {
     let mut rank_places = [9u16; 300];
     let mut table = Table::open(&mut band_places, &mut rank_places);
     make_line(&mut table, 0)?;
-    check_finds(&rt, &mut table, (256, 256, 256), Some(256))?;
+    check_finds(&rt, &mut table, (256, 256, 256, Some(256)))?;
     line_fell(&rt, &mut table)?;
-    assert!(rt; unchanged(&rank_places[256..]));
+    assert!(rt; rank_places[256..].iter().all(|rank| *rank == 9));
     Ok(())
 }
 
@@ -122,6 +113,6 @@ fn rank_places_past_the_states_are_left(rt: HostRuntime) -> Result<(), Fail> {
     let mut table = Table::open(&mut band_places, &mut rank_places);
     make_falling(&rt, &mut table)?;
     fates_are(&rt, &mut table, &FALLING_FATES)?;
-    assert!(rt; unchanged(&rank_places[3..]));
+    assert!(rt; rank_places[3..].iter().all(|rank| *rank == 9));
     Ok(())
 }

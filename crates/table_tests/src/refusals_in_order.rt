@@ -19,14 +19,6 @@ const NO_LOW: Refusal = Refusal::NoAmount { bound: Bound::Low };
 
 const NO_HIGH: Refusal = Refusal::NoAmount { bound: Bound::High };
 
-/// What a check is refused for, if it is.
-fn check_refused(table: &mut Table<'_, Share>) -> Option<Refusal> {
-    match table.check() {
-        Ok(_) => None,
-        Err(refusal) => Some(refusal),
-    }
-}
-
 #[test]
 fn a_table_without_states_refuses_all_but_size(rt: HostRuntime) -> Result<(), Fail> {
     let mut band_places = [UNUSED; 4];
@@ -37,13 +29,13 @@ fn a_table_without_states_refuses_all_but_size(rt: HostRuntime) -> Result<(), Fa
         // Neither the state nor the amount nor the verdict is looked for.
         assert_eq!(rt; set(&mut table, (state, state, 0, FULL)), Err(none));
         assert_eq!(rt; set(&mut table, (state, state, OVER, OVER)), Err(none));
-        assert_eq!(rt; check_refused(&mut table), Some(none));
+        assert_eq!(rt; table.check().err(), Some(none));
         assert_eq!(rt; table.rank(state), Err(none));
         assert_eq!(rt; table.reason(state), Err(none));
     }
     assert_eq!(rt; table.size(0, 0), Err(Refusal::StateCount { states: 0 }));
     assert_eq!(rt; table.size(3, 3), Err(NO_SOURCE));
-    assert_eq!(rt; check_refused(&mut table), Some(none));
+    assert_eq!(rt; table.check().err(), Some(none));
     make_falling(&rt, &mut table)
 }
 
@@ -53,7 +45,7 @@ fn without_places_a_table_still_refuses_in_order(rt: HostRuntime) {
     assert_eq!(rt; table.size(1, 0), Err(Refusal::StateCount { states: 1 }));
     assert_eq!(rt; table.size(0, 0), Err(Refusal::StateCount { states: 0 }));
     assert_eq!(rt; set(&mut table, (0, 0, 0, 0)), Err(Refusal::NoStates));
-    assert_eq!(rt; check_refused(&mut table), Some(Refusal::NoStates));
+    assert_eq!(rt; table.check().err(), Some(Refusal::NoStates));
     assert_eq!(rt; table.rank(0), Err(Refusal::NoStates));
     assert_eq!(rt; table.reason(0), Err(Refusal::NoStates));
 }
@@ -84,7 +76,7 @@ fn a_refused_size_leaves_the_table(rt: HostRuntime) -> Result<(), Fail> {
         assert_eq!(rt; table.size(states, start), Err(refusal));
         fates_are(&rt, &mut table, &FALLING_FATES)?;
     }
-    check_finds(&rt, &mut table, (3, 2, 2), Some(2))?;
+    check_finds(&rt, &mut table, (3, 2, 2, Some(2)))?;
     fates_are(&rt, &mut table, &FALLING_FATES)
 }
 
@@ -101,9 +93,9 @@ fn a_table_has_at_most_256_states(rt: HostRuntime) -> Result<(), Fail> {
         Err(Refusal::StateCount { states: 300 })
     );
     assert_eq!(rt; table.size(256, 256), Err(NO_SOURCE));
-    assert_eq!(rt; check_refused(&mut table), Some(Refusal::NoStates));
+    assert_eq!(rt; table.check().err(), Some(Refusal::NoStates));
     assert_eq!(rt; table.size(256, 255), Ok(()));
-    check_finds(&rt, &mut table, (256, 256, 1), Some(1))?;
+    check_finds(&rt, &mut table, (256, 256, 1, Some(1)))?;
     assert_eq!(rt; table.rank(256), Err(NO_SOURCE));
     Ok(())
 }
@@ -159,7 +151,7 @@ fn a_refused_set_leaves_the_table(rt: HostRuntime) -> Result<(), Fail> {
         assert_eq!(rt; set(&mut table, given), Err(refusal));
         fates_are(&rt, &mut table, &FALLING_FATES)?;
     }
-    check_finds(&rt, &mut table, (3, 2, 2), Some(2))?;
+    check_finds(&rt, &mut table, (3, 2, 2, Some(2)))?;
     fates_are(&rt, &mut table, &FALLING_FATES)
 }
 
@@ -171,7 +163,7 @@ fn a_refused_set_changes_no_band(rt: HostRuntime) -> Result<(), Fail> {
     make_falling(&rt, &mut table)?;
     for (given, refusal) in REFUSED_SETS {
         assert_eq!(rt; set(&mut table, given), Err(refusal));
-        check_finds(&rt, &mut table, (3, 2, 2), Some(2))?;
+        check_finds(&rt, &mut table, (3, 2, 2, Some(2)))?;
         fates_are(&rt, &mut table, &FALLING_FATES)?;
     }
     Ok(())
@@ -194,9 +186,9 @@ fn the_largest_grade_is_full(rt: HostRuntime) -> Result<(), Fail> {
     assert_eq!(rt; table.set(0, 0, over, full), Err(NO_LOW));
     assert_eq!(rt; table.set(0, 0, over, over), Err(NO_LOW));
     assert_eq!(rt; table.set(0, 0, full, over), Err(NO_HIGH));
-    check_finds(&rt, &mut table, (1, 1, 1), Some(1))?;
+    check_finds(&rt, &mut table, (1, 1, 1, Some(1)))?;
     assert_eq!(rt; table.set(0, 0, full, full), Ok(()));
-    check_finds(&rt, &mut table, (1, 0, 0), None)
+    check_finds(&rt, &mut table, (1, 0, 0, None))
 }
 
 #[test]

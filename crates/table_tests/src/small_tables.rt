@@ -1,7 +1,9 @@
 // Tables of a few states, each with its verdict, and the rank and reason of every state, worked out by hand.
 use crate::helpers::*;
+use amounts::bounds::Bounds;
 use amounts::grades::Grade;
-use amounts::shares::Share;
+use amounts::record_number::RecordNumber;
+use refusals::{Bound, Refusal};
 use std::process::Abort;
 use std::test::Fail;
 use tables::band::Band;
@@ -11,9 +13,6 @@ use theory::reason::Reason;
 const SHORT: Fate = Some((1, Reason::ShortOfFull));
 
 const OVER: Fate = Some((1, Reason::OverFull));
-
-/// States 1 and 2 pass all to themselves, so that they stand whatever state 0 does.
-const TWO_STANDING: [Given; 2] = [(1, 1, FULL, FULL), (2, 2, FULL, FULL)];
 
 /// Sees what a check finds in a table with start 0 and these bands, and the fate of every state.
 fn judged(
@@ -27,29 +26,50 @@ fn judged(
     let mut table = Table::open(&mut band_places, &mut rank_places);
     table.size(fates.len(), 0)?;
     set_all(&mut table, bands)?;
-    let start = match fates.first() {
-        Some(Some((rank, _))) => Some(*rank),
-        _ => None,
-    };
-    check_finds(rt, &mut table, (fates.len(), found.0, found.1), start)?;
+    let start = fates.first().and_then(|fate| fate.map(|(rank, _)| rank));
+    check_finds(rt, &mut table, (fates.len(), found.0, found.1, start))?;
     fates_are(rt, &mut table, fates)
 }
 
-/// Sees that state 0 has this fate with these two bands, to two states that stand.
+/// A low and a high of some kind of amount, from their numbers.
+fn bounds<K: RecordNumber>((low, high): (u32, u32)) -> Result<Bounds<K>, Refusal> {
+    let low = K::from_number(low).ok_or(Refusal::NoAmount { bound: Bound::Low })?;
+    let high = K::from_number(high).ok_or(Refusal::NoAmount { bound: Bound::High })?;
+    Ok(Bounds { low, high })
+}
+
+/// Sees that state 0 has this fate with these two bands, to states 1 and 2, which pass all to themselves and so stand.
+// The places are lent from outside: the check cannot tell that an array of bands of an unknown kind fits in memory.
+fn on_two<K: RecordNumber>(
+    rt: &impl Abort,
+    band_places: &mut [Band<K>],
+    to_1: (u32, u32),
+    to_2: (u32, u32),
+    fate: Fate,
+) -> Result<(), Fail> {
+    let to_1 = bounds(to_1)?;
+    let to_2 = bounds(to_2)?;
+    let mut rank_places = [9u16; 3];
+    let mut table = Table::open(band_places, &mut rank_places);
+    table.size(3, 0)?;
+    table.set(0, 1, to_1.low, to_1.high)?;
+    table.set(0, 2, to_2.low, to_2.high)?;
+    table.set(1, 1, K::full(), K::full())?;
+    table.set(2, 2, K::full(), K::full())?;
+    let fell = usize::from(fate.is_some());
+    let start = fate.map(|(rank, _)| rank);
+    check_finds(rt, &mut table, (3, fell, fell, start))?;
+    fates_are(rt, &mut table, &[fate, None, None])
+}
+
+/// The same with shares, which add up.
 fn judged_on_two(
     rt: &impl Abort,
     to_1: (u32, u32),
     to_2: (u32, u32),
     fate: Fate,
 ) -> Result<(), Fail> {
-    let bands = [
-        (0, 1, to_1.0, to_1.1),
-        (0, 2, to_2.0, to_2.1),
-        TWO_STANDING[0],
-        TWO_STANDING[1],
-    ];
-    let found = if fate.is_some() { (1, 1) } else { (0, 0) };
-    judged(rt, &bands, found, &[fate, None, None])
+    on_two(rt, &mut [UNUSED; 4], to_1, to_2, fate)
 }
 
 #[test]
@@ -72,7 +92,7 @@ fn any_state_may_be_the_start(rt: HostRuntime) -> Result<(), Fail> {
     for (start, rank) in [(0, Some(2)), (1, None), (2, Some(1))] {
         table.size(3, start)?;
         set_all(&mut table, &FALLING)?;
-        check_finds(&rt, &mut table, (3, 2, 2), rank)?;
+        check_finds(&rt, &mut table, (3, 2, 2, rank))?;
         fates_are(&rt, &mut table, &FALLING_FATES)?;
     }
     Ok(())
@@ -143,7 +163,12 @@ fn lows_must_come_to_full_at_most(rt: HostRuntime) -> Result<(), Fail> {
 fn a_low_above_its_high_is_crossed(rt: HostRuntime) -> Result<(), Fail> {
     let at_1 = Some((1, Reason::Crossed { target: 1 }));
     let at_2 = Some((1, Reason::Crossed { target: 2 }));
-    judged(&rt, &[(0, 1, 5, 3), TWO_STANDING[0]], (1, 1), &[at_1, None])?;
+    judged(
+        &rt,
+        &[(0, 1, 5, 3), (1, 1, FULL, FULL)],
+        (1, 1),
+        &[at_1, None],
+    )?;
     judged_on_two(&rt, (5, 3), (0, FULL), at_1)?;
     judged_on_two(&rt, (0, FULL), (5, 3), at_2)?;
     // The lowest target counts.
@@ -194,42 +219,20 @@ fn all_to_two_states_is_over_full_in_shares(rt: HostRuntime) -> Result<(), Fail>
     judged_on_two(&rt, (FULL, FULL), (FULL, FULL), OVER)
 }
 
-/// The same with grades, where the larger counts: these are bands to two states that stand.
+/// The same with grades, where the larger counts.
 fn graded_on_two(
     rt: &impl Abort,
     to_1: (u32, u32),
     to_2: (u32, u32),
     fate: Fate,
 ) -> Result<(), Fail> {
-    let unused = Grade { number: 7 };
-    let mut band_places = [Band {
-        source: 0,
-        target: 0,
-        low: unused,
-        high: unused,
-    }; 4];
-    let mut rank_places = [9u16; 3];
-    let mut table = Table::open(&mut band_places, &mut rank_places);
-    table.size(3, 0)?;
-    let bands = [
-        (0, 1, to_1),
-        (0, 2, to_2),
-        (1, 1, (1_000, 1_000)),
-        (2, 2, (1_000, 1_000)),
-    ];
-    for (source, target, (low, high)) in bands {
-        table.set(
-            source,
-            target,
-            Grade { number: low },
-            Grade { number: high },
-        )?;
-    }
-    match fate {
-        Some((rank, _)) => check_finds(rt, &mut table, (3, 1, 1), Some(rank))?,
-        None => check_finds(rt, &mut table, (3, 0, 0), None)?,
-    }
-    fates_are(rt, &mut table, &[fate, None, None])
+    let unused = Band {
+        source: 7,
+        target: 7,
+        low: Grade { number: 7 },
+        high: Grade { number: 7 },
+    };
+    on_two(rt, &mut [unused; 4], to_1, to_2, fate)
 }
 
 #[test]

@@ -9,51 +9,47 @@ use tables::table::Table;
 use theory::reason::Reason;
 
 /// Makes the falling table, sets a band, and sees that the verdict lapses. A check then gives these fates.
-fn lapses_at(
-    rt: &impl Abort,
-    given: Given,
-    found: (usize, usize, usize),
-    fates: &[Fate; 3],
-) -> Result<(), Fail> {
+fn lapses_at(rt: &impl Abort, given: Given, found: Found, fates: &[Fate; 3]) -> Result<(), Fail> {
     let mut band_places = [UNUSED; 5];
     let mut rank_places = [9u16; 3];
     let mut table = Table::open(&mut band_places, &mut rank_places);
     make_falling(rt, &mut table)?;
     set(&mut table, given)?;
     has_no_verdict(rt, &mut table);
-    let start = match fates[0] {
-        Some((rank, _)) => Some(rank),
-        None => None,
-    };
-    check_finds(rt, &mut table, found, start)?;
+    check_finds(rt, &mut table, found)?;
     fates_are(rt, &mut table, fates)
 }
 
 #[test]
 fn it_lapses_at_a_band_in_place_of_another(rt: HostRuntime) -> Result<(), Fail> {
     let fates = [None, None, Some((1, Reason::ShortOfFull))];
-    lapses_at(&rt, (0, 1, 0, FULL), (3, 1, 1), &fates)
+    lapses_at(&rt, (0, 1, 0, FULL), (3, 1, 1, None), &fates)
 }
 
 #[test]
 fn it_lapses_at_the_same_band_again(rt: HostRuntime) -> Result<(), Fail> {
-    lapses_at(&rt, (0, 1, 262_144, 524_288), (3, 2, 2), &FALLING_FATES)
+    lapses_at(
+        &rt,
+        (0, 1, 262_144, 524_288),
+        (3, 2, 2, Some(2)),
+        &FALLING_FATES,
+    )
 }
 
 #[test]
 fn it_lapses_at_a_new_pair(rt: HostRuntime) -> Result<(), Fail> {
-    lapses_at(&rt, (2, 2, 0, FULL), (3, 0, 0), &[None, None, None])
+    lapses_at(&rt, (2, 2, 0, FULL), (3, 0, 0, None), &[None, None, None])
 }
 
 #[test]
 fn it_lapses_at_a_cleared_pair(rt: HostRuntime) -> Result<(), Fail> {
     let short = Some((1, Reason::ShortOfFull));
-    lapses_at(&rt, (0, 2, 0, 0), (3, 2, 1), &[short, None, short])
+    lapses_at(&rt, (0, 2, 0, 0), (3, 2, 1, Some(1)), &[short, None, short])
 }
 
 #[test]
 fn it_lapses_at_nothing_for_a_pair_that_is_not_held(rt: HostRuntime) -> Result<(), Fail> {
-    lapses_at(&rt, (1, 0, 0, 0), (3, 2, 2), &FALLING_FATES)
+    lapses_at(&rt, (1, 0, 0, 0), (3, 2, 2, Some(2)), &FALLING_FATES)
 }
 
 #[test]
@@ -64,7 +60,7 @@ fn it_lapses_at_nothing_when_no_place_is_free(rt: HostRuntime) -> Result<(), Fai
     make_falling(&rt, &mut table)?;
     set(&mut table, (1, 0, 0, 0))?;
     has_no_verdict(&rt, &mut table);
-    check_finds(&rt, &mut table, (3, 2, 2), Some(2))?;
+    check_finds(&rt, &mut table, (3, 2, 2, Some(2)))?;
     fates_are(&rt, &mut table, &FALLING_FATES)
 }
 
@@ -78,7 +74,7 @@ fn it_lapses_at_a_size(rt: HostRuntime) -> Result<(), Fail> {
         table.size(states, 1)?;
         has_no_verdict(&rt, &mut table);
         // Every band is cleared.
-        check_finds(&rt, &mut table, (states, states, 1), Some(1))?;
+        check_finds(&rt, &mut table, (states, states, 1, Some(1)))?;
         fates_are(&rt, &mut table, &[Some((1, Reason::ShortOfFull)); 3])?;
     }
     Ok(())
@@ -93,7 +89,7 @@ fn a_new_table_has_none(rt: HostRuntime) -> Result<(), Fail> {
     has_no_verdict(&rt, &mut table);
     set_all(&mut table, &FALLING)?;
     has_no_verdict(&rt, &mut table);
-    check_finds(&rt, &mut table, (3, 2, 2), Some(2))?;
+    check_finds(&rt, &mut table, (3, 2, 2, Some(2)))?;
     fates_are(&rt, &mut table, &FALLING_FATES)
 }
 
@@ -161,7 +157,7 @@ fn questions_and_checks_leave_it(rt: HostRuntime) -> Result<(), Fail> {
     for _ in 0..3 {
         fates_are(&rt, &mut table, &FALLING_FATES)?;
         fates_are(&rt, &mut table, &FALLING_FATES)?;
-        check_finds(&rt, &mut table, (3, 2, 2), Some(2))?;
+        check_finds(&rt, &mut table, (3, 2, 2, Some(2)))?;
     }
     fates_are(&rt, &mut table, &FALLING_FATES)
 }

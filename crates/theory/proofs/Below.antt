@@ -1,6 +1,7 @@
 -- What is said of the numbers below n together: their total, the lowest that passes a test, how many pass, and the highest value.
-use Rattle.std.proofs.Common.{◌≡◌, ℕ, zero, suc, ◌+◌, ◌<◌, ◌≤◌, Bool, true, false, cond, ◌⊎◌, is_some, Some, None, Option, refl, ap, ◌∙◌, ap₂, inl, inr, ⊎_elim, arith}
-use Rattle.std.proofs.lemmas.Bool.{cases_Bool, cases_eq, true≢false}
+use Rattle.std.proofs.Common.{◌≡◌, ℕ, zero, suc, ◌+◌, ◌<◌, ◌≤◌, Bool, true, false, cond, ◌⊎◌, Some, None, Option, refl, ap, ◌∙◌, ap₂, inl, inr, ⊎_elim, arith}
+use Rattle.std.proofs.lemmas.Bool.{cases_eq}
+use Rattle.std.proofs.lemmas.Bool.Decides.{nat_tests}
 use Rattle.std.specs.Option.{option_or}
 use Rattle.amounts.specs.Kinds.{Kind}
 use Rattle.theory.specs.Models.{total_below, lowest_below, count_below, highest_below}
@@ -13,11 +14,6 @@ total_same k f g (suc n) same = ap₂ k.total (total_same k f g n (λ u below. s
 -- what a search has found once n is tried too
 abbrev found : ℕ → Option ℕ → Bool → Option ℕ
 found n before passes = option_or before (cond passes (Some n) None)
-
-found_none : (n : ℕ) (before : Option ℕ) (passes : Bool) → found n before passes ≡ None → (before ≡ None) × (passes ≡ false)
-found_none n None true none = absurd (true≢false (ap is_some none))
-found_none n None false none = (refl, refl)
-found_none n (Some u) passes none = absurd (true≢false (ap is_some none))
 
 pub lowest_same : (p q : ℕ → Bool) (n : ℕ) → ((u : ℕ) → u < n → p u ≡ q u) → lowest_below p n ≡ lowest_below q n
 unfolding lowest_below
@@ -33,12 +29,7 @@ module _ (test : ℕ → Bool) where
   pub none_passes : (n : ℕ) → lowest_below test n ≡ None → (u : ℕ) → u < n → test u ≡ false
   unfolding lowest_below
   none_passes zero none u below = absurd (omega arith)
-  none_passes (suc n) none u below =
-      let both = found_none n (lowest_below test n) (test n) none in
-      ⊎_elim
-      (λ (is : u ≡ n). ap test is ∙ both.1)
-      (λ (ne : u ≡ n → ⊥). none_passes n both.0 u (omega arith))
-      (cases_eq u n)
+  none_passes (suc n) none u below = let before = none_passes n in grind (arith, nat_tests)
 
   -- what is found below v is found below every n from v on
   pub lowest_kept : (n v u : ℕ) → lowest_below test v ≡ Some u → v ≤ n → lowest_below test n ≡ Some u
@@ -80,37 +71,23 @@ module _ (test : ℕ → Bool) where
   pub count_some : (n : ℕ) → 0 < count_below test n → (u : ℕ) × (u < n) × (test u ≡ true)
   unfolding count_below
   count_some zero some = absurd (omega arith)
-  count_some (suc n) some =
-      ⊎_elim
-      (λ (passes : test n ≡ true). (n, omega arith, passes))
-      (λ (fails : test n ≡ false).
-      let before = count_some n (omega (arith, ap one fails)) in
-      (before.0, omega (arith, before.1), before.2))
-      (cases_Bool (test n))
+  count_some (suc n) some = let before = count_some n in grind (arith, nat_tests)
 
   pub count_zero : (n : ℕ) → count_below test n ≡ 0 → (u : ℕ) → u < n → test u ≡ false
   unfolding count_below
   count_zero zero none u below = absurd (omega arith)
-  count_zero (suc n) none u below =
-      ⊎_elim
-      (λ (passes : test n ≡ true). absurd (omega (arith, ap one passes)))
-      (λ (fails : test n ≡ false). ⊎_elim (λ (is : u ≡ n). ap test is ∙ fails) (λ (ne : u ≡ n → ⊥). count_zero n (omega arith) u (omega arith)) (cases_eq u n))
-      (cases_Bool (test n))
+  count_zero (suc n) none u below = let before = count_zero n in grind (arith, nat_tests)
 
 module _ (f : ℕ → ℕ) where
   highest_at_most : (n r : ℕ) → ((t : ℕ) → t < n → f t ≤ r) → highest_below f n ≤ r
   unfolding highest_below
   highest_at_most zero r most = omega arith
-  highest_at_most (suc n) r most = omega (arith, highest_at_most n r (λ t below. most t (omega arith)), most n (omega arith))
+  highest_at_most (suc n) r most = let before = highest_at_most n r in grind arith
 
   highest_above : (n t : ℕ) → t < n → f t ≤ highest_below f n
   unfolding highest_below
   highest_above zero t below = absurd (omega arith)
-  highest_above (suc n) t below =
-      ⊎_elim
-      (λ (is : t ≡ n). omega (arith, ap f is))
-      (λ (ne : t ≡ n → ⊥). omega (arith, highest_above n t (omega arith)))
-      (cases_eq t n)
+  highest_above (suc n) t below = let before = highest_above n t in grind arith
 
   pub highest_is : (n r : ℕ) → ((t : ℕ) → t < n → f t ≤ r) → (r ≡ 0) ⊎ ((t : ℕ) × (t < n) × (f t ≡ r)) → highest_below f n ≡ r
   highest_is n r most (inl none) = omega (arith, highest_at_most n r most)

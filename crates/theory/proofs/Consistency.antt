@@ -1,6 +1,7 @@
 -- A state has no reason to fall exactly where it is locally consistent, and only the states decide which reason it has.
-use Rattle.std.proofs.Common.{◌≡◌, ℕ, ◌<◌, Bool, true, false, not, T, is_some, Some, None, Option, sym, refl, ap, subst, ⊎_elim}
-use Rattle.std.proofs.lemmas.Bool.{cases_Bool, not-false, true≢false}
+use Rattle.std.proofs.Common.{◌≡◌, ℕ, ◌<◌, Bool, true, false, not, None, Option, ap, arith}
+use Rattle.std.proofs.lemmas.Bool.Decides.{nat_tests}
+use Rattle.std.proofs.lemmas.Bool.{not-false}
 use Rattle.amounts.specs.Kinds.{Kind, Laws, AtMost}
 use Rattle.theory.specs.Consistency.{low_inside, high_inside, total_low, total_high, Consistent, is_lost, is_crossed, first_reason, reason_of}
 use Rattle.theory.specs.Models.{Model, lowest_below}
@@ -18,23 +19,15 @@ module _ {S : Type 0} (k : Kind S) (m : Model S) where
 
 -- no reason is left only where none of the four applies
 no_reason : (lost crossed : Option ℕ) (over short : Bool) → first_reason lost crossed over short ≡ None → (lost ≡ None) × (crossed ≡ None) × (over ≡ false) × (short ≡ false)
-no_reason (Some u) crossed over short none = absurd (true≢false (ap is_some none))
-no_reason None (Some u) over short none = absurd (true≢false (ap is_some none))
-no_reason None None true short none = absurd (true≢false (ap is_some none))
-no_reason None None false true none = absurd (true≢false (ap is_some none))
-no_reason None None false false none = (refl, refl, refl, refl)
+no_reason lost crossed over short none = grind (arith, nat_tests)
 
 module _ {S : Type 0} (k : Kind S) where
   -- the test of two amounts passes exactly where one is at most the other
   at_most_lem : (x y : S) → not (k.at_most x y) ≡ false → AtMost k x y
-  at_most_lem x y passes = record { holds = subst T (sym (not-false (k.at_most x y) passes)) tt }
+  at_most_lem x y passes = record { holds = not-false (k.at_most x y) passes }
 
   at_most_passes : (x y : S) → AtMost k x y → not (k.at_most x y) ≡ false
-  at_most_passes x y most = passes (k.at_most x y) most.holds
-    where
-      passes : (b : Bool) → T b → not b ≡ false
-      passes true holds = refl
-      passes false holds = absurd holds
+  at_most_passes x y most = ap not most.holds
 
 module _ {S : Type 0} (k : Kind S) (m : Model S) (x : ℕ → Bool) (t : ℕ) where
   pub consistent_from_none : Laws k → reason_of k m x t ≡ None → Consistent k m x t
@@ -61,15 +54,7 @@ module _ {S : Type 0} (k : Kind S) (m : Model S) (x : ℕ → Bool) (t : ℕ) wh
       λ i. first_reason (lost i) (crossed i) (over i) (short i)
     where
       none_lost : (u : ℕ) → u < m.states → is_lost k m x t u ≡ false
-      none_lost u below =
-          ⊎_elim
-          (λ (within : x u ≡ true). rw within)
-          (λ (out : x u ≡ false). rw out (at_most_passes k (m.band t u).low k.nothing (fits.outside u below out).there))
-          (cases_Bool (x u))
+      none_lost u below = let least = λ (out : x u ≡ false). at_most_passes k (m.band t u).low k.nothing (fits.outside u below out).there in grind (arith, nat_tests)
 
       none_crossed : (u : ℕ) → u < m.states → is_crossed k m x t u ≡ false
-      none_crossed u below =
-          ⊎_elim
-          (λ (within : x u ≡ true). rw within (at_most_passes k (m.band t u).low (m.band t u).high (fits.inside u below within)))
-          (λ (out : x u ≡ false). rw out)
-          (cases_Bool (x u))
+      none_crossed u below = let ordered = λ (within : x u ≡ true). at_most_passes k (m.band t u).low (m.band t u).high (fits.inside u below within) in grind (arith, nat_tests)

@@ -1,6 +1,6 @@
 -- The ranks by recursion fit the relation `Ranks`, no others do, and there are no more rounds, nor removed states, than states.
-use Rattle.std.proofs.Common.{◌≡◌, ℕ, zero, suc, ◌+◌, ◌<◌, ◌≤◌, Bool, true, false, not, ◌&&◌, ◌||◌, eqb, leb, ◌⊎◌, is_some, Some, None, Option, sym, refl, ap, ◌∙◌, ⊎_elim, arith}
-use Rattle.std.proofs.lemmas.Bool.{both_ways, cases_Bool, cases_eq, true≢false}
+use Rattle.std.proofs.Common.{◌≡◌, ℕ, zero, suc, ◌+◌, ◌<◌, ◌≤◌, Bool, true, false, not, ◌&&◌, ◌||◌, eqb, leb, ◌⊎◌, is_some, None, Option, sym, refl, ap, ◌∙◌, ⊎_elim, arith}
+use Rattle.std.proofs.lemmas.Bool.{both_ways, cases_eq}
 use Rattle.std.proofs.lemmas.Bool.Decides.{nat_tests}
 use Rattle.amounts.specs.Kinds.{Kind, Laws}
 use Rattle.theory.specs.Consistency.{reason_of}
@@ -55,19 +55,16 @@ Next v r reason = (eqb v 0 || leb (suc (suc r)) v) ≡ ((eqb v 0 || leb (suc r) 
 
 -- so it has a reason in the round of its rank, and none in an earlier one
 next_falls : (v r : ℕ) (reason : Bool) → Next v r reason → v ≡ suc r → reason ≡ true
-next_falls v r true next is = refl
-next_falls v r false next is = grind (arith, nat_tests)
+next_falls v r reason next is = grind (arith, nat_tests)
 
 next_stays : (v r : ℕ) (reason : Bool) → Next v r reason → (v ≡ 0) ⊎ (suc r < v) → reason ≡ false
-next_stays v r true next stays = grind (arith, nat_tests)
-next_stays v r false next stays = refl
+next_stays v r reason next stays = grind (arith, nat_tests)
 
 next_from : (v r : ℕ) (reason : Bool) → (v ≡ suc r → reason ≡ true) → ((v ≡ 0) ⊎ (suc r < v) → reason ≡ false) → Next v r reason
 next_from v r reason falls stays = grind (arith, nat_tests)
 
 no_reason : {X : Type 0} (reason : Option X) → is_some reason ≡ false → reason ≡ None
-no_reason None none = refl
-no_reason (Some x) none = absurd (true≢false none)
+no_reason reason none = grind (arith, nat_tests)
 
 module _ {S : Type 0} (k : Kind S) (m : Model S) where
   -- by their ranks, t has a reason to fall in round r + 1
@@ -98,11 +95,10 @@ module _ {S : Type 0} (k : Kind S) (m : Model S) where
     module _ (rank : ℕ → ℕ) (given : Ranks k m rank) where
       fell_reason : (t r : ℕ) → t < m.states → rank t ≡ suc r → has_reason rank r t ≡ true
       fell_reason t r below is =
-          ⊎_elim
-          (λ (some : has_reason rank r t ≡ true). some)
-          (λ (none : has_reason rank r t ≡ false).
-          absurd (given.fell t r below is (consistent_from_none k m (not_before rank (suc r)) t laws (no_reason (reason_of k m (not_before rank (suc r)) t) none))))
-          (cases_Bool (has_reason rank r t))
+          let fell = given.fell t r below is in
+          let fits = consistent_from_none k m (not_before rank (suc r)) t laws in
+          let none = no_reason (reason_of k m (not_before rank (suc r)) t) in
+          grind (arith, nat_tests)
 
       stood_reason : (t r : ℕ) → t < m.states → (rank t ≡ 0) ⊎ (suc r < rank t) → has_reason rank r t ≡ false
       stood_reason t r below stays = ap is_some (none_from_consistent k m (not_before rank (suc r)) t (given.stood t r below stays))

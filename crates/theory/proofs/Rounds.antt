@@ -1,7 +1,6 @@
 -- Round by round: what the ranks so far say, when the rounds come to an end, and how many there can be.
-use Rattle.std.proofs.Common.{◌≡◌, ℕ, zero, suc, ◌+◌, ◌<◌, ◌≤◌, Bool, true, false, cond, not, ◌&&◌, ◌||◌, eqb, leb, ◌⊎◌, is_some, sym, refl, ap, ◌∙◌, inl, inr, ⊎_elim, arith}
-use mathlib.Core.Bool.{and-not_self}
-use Rattle.std.proofs.lemmas.Bool.{and_parts, cases_Bool, cases_eq, cond-false, cond-true, eq-eqb, false≢true, ne_eqb}
+use Rattle.std.proofs.Common.{◌≡◌, ℕ, zero, suc, ◌+◌, ◌<◌, ◌≤◌, Bool, true, false, cond, not, ◌&&◌, ◌||◌, eqb, leb, ◌⊎◌, is_some, sym, refl, ap, ◌∙◌, inl, inr, arith}
+use Rattle.std.proofs.lemmas.Bool.{and_parts, cond-false, cond-true}
 use Rattle.std.proofs.lemmas.Bool.Decides.{nat_tests}
 use Rattle.amounts.specs.Kinds.{Kind}
 use Rattle.theory.specs.Consistency.{reason_of}
@@ -23,23 +22,13 @@ module _ {S : Type 0} (k : Kind S) (m : Model S) (first : ℕ → Bool) where
 
   stood_since : (n r t : ℕ) → r ≤ n → standing k m first n t ≡ true → standing k m first r t ≡ true
   stood_since zero r t upto stands = let is : r ≡ zero = omega arith in rw is stands
-  stood_since (suc n) r t upto stands =
-      ⊎_elim
-      (λ (is : r ≡ suc n). rw is stands)
-      (λ (ne : r ≡ suc n → ⊥). stood_since n r t (omega arith) (stood_before n t stands))
-      (cases_eq r (suc n))
+  stood_since (suc n) r t upto stands = let before = stood_since n r t in let stood = stood_before n t stands in grind (arith, nat_tests)
 
   -- the states of rank 0 stand
   pub rank_zero : (r t : ℕ) → first t ≡ true → eqb (rank_within k m first r t) 0 ≡ standing k m first r t
   unfolding rank_within standing
   rank_zero zero t stood = sym stood
-  rank_zero (suc r) t stood = step (standing k m first r t) (standing k m first (suc r) t) (stood_before r t) (rank_zero r t stood)
-    where
-      step : (before after : Bool) → (after ≡ true → before ≡ true) → eqb (rank_within k m first r t) 0 ≡ before → eqb (cond (before && not after) (suc r) (rank_within k m first r t)) 0 ≡ after
-      step true true earlier same = same
-      step true false earlier same = grind (arith, nat_tests)
-      step false true earlier same = absurd (false≢true (earlier refl))
-      step false false earlier same = same
+  rank_zero (suc r) t stood = let earlier = stood_before r t in let before = rank_zero r t stood in grind (arith, nat_tests)
 
   falls_ranked : (r t : ℕ) → falls_after k m first r t ≡ true → rank_within k m first (suc r) t ≡ suc r
   unfolding rank_within
@@ -57,16 +46,12 @@ module _ {S : Type 0} (k : Kind S) (m : Model S) (first : ℕ → Bool) where
   pub ranks_tell : (n r t : ℕ) → r ≤ n → first t ≡ true → not_before (rank_within k m first n) (suc r) t ≡ standing k m first r t
   ranks_tell zero r t upto stood = let is : r ≡ zero = omega arith in rw is (tells_now zero t stood)
   ranks_tell (suc n) r t upto stood =
-      ⊎_elim
-      (λ (is : r ≡ suc n). rw is (tells_now (suc n) t stood))
-      (λ (ne : r ≡ suc n → ⊥).
-      ⊎_elim
-      (λ (falls : falls_after k m first n t ≡ true).
-      let stands = stood_since n r t (omega arith) (and_parts (standing k m first n t) (not (standing k m first (suc n) t)) falls).0 in
-      rw (falls_ranked n t falls) (grind (arith, nat_tests)))
-      (λ (stays : falls_after k m first n t ≡ false). rw (stays_ranked n t stays) (ranks_tell n r t (omega arith) stood))
-      (cases_Bool (falls_after k m first n t)))
-      (cases_eq r (suc n))
+      let now = tells_now (suc n) t stood in
+      let before = ranks_tell n r t in
+      let stands = stood_since n r t in
+      let falls = falls_ranked n t in
+      let stays = stays_ranked n t in
+      grind (arith, nat_tests)
 
   -- a rank written in round r + 1 itself still counts as not fallen before it
   pub not_before_lem : (r u v : ℕ) → first u ≡ true → (v ≡ rank_within k m first r u) ⊎ (v ≡ rank_within k m first (suc r) u) → (eqb v 0 || leb (suc r) v) ≡ standing k m first r u
@@ -77,23 +62,16 @@ module _ {S : Type 0} (k : Kind S) (m : Model S) (first : ℕ → Bool) where
     pub rank_falls : rank_within k m first r t ≡ 0 → is_some (reason_of k m (standing k m first r) t) ≡ true → (rank_within k m first (suc r) t ≡ suc r) × (falls_after k m first r t ≡ true)
     unfolding standing
     rank_falls none why =
-        let stands : standing k m first r t ≡ true = sym (rank_zero r t stood) ∙ eq-eqb (rank_within k m first r t) 0 none in
-        let falls : falls_after k m first r t ≡ true = rw (stands, why) in
-        (falls_ranked r t falls, falls)
+        let stands = rank_zero r t stood in
+        let ranked = falls_ranked r t in
+        grind (arith, nat_tests)
 
     pub rank_stays : (is_some (reason_of k m (standing k m first r) t) ≡ false) ⊎ (rank_within k m first r t ≡ 0 → ⊥) → (rank_within k m first (suc r) t ≡ rank_within k m first r t) × (falls_after k m first r t ≡ false)
     unfolding standing
-    rank_stays why = (stays_ranked r t (stays why), stays why)
-      where
-        stays : (is_some (reason_of k m (standing k m first r) t) ≡ false) ⊎ (rank_within k m first r t ≡ 0 → ⊥) → falls_after k m first r t ≡ false
-        stays (inl fits) =
-            ⊎_elim
-            (λ (stands : standing k m first r t ≡ true). rw (stands, fits))
-            (λ (fallen : standing k m first r t ≡ false). rw fallen)
-            (cases_Bool (standing k m first r t))
-        stays (inr ranked) =
-            let fallen : standing k m first r t ≡ false = sym (rank_zero r t stood) ∙ ne_eqb (rank_within k m first r t) 0 ranked in
-            rw fallen
+    rank_stays why =
+        let stands = rank_zero r t stood in
+        let ranked = stays_ranked r t in
+        grind (arith, nat_tests)
 
   -- r rounds are done, in each of which a state fell, and `removed` states have fallen
   pub record Progress (r removed : ℕ) : Type 0 where
@@ -111,13 +89,7 @@ module _ {S : Type 0} (k : Kind S) (m : Model S) (first : ℕ → Bool) where
 
   -- a state that does not stand after a round had fallen before it, or falls in it
   falls_once : (r t : ℕ) → cond (not (standing k m first (suc r) t)) 1 0 ≡ cond (not (standing k m first r t)) 1 0 + cond (falls_after k m first r t) 1 0
-  falls_once r t = step (standing k m first r t) (standing k m first (suc r) t) (stood_before r t)
-    where
-      step : (before after : Bool) → (after ≡ true → before ≡ true) → cond (not after) 1 0 ≡ cond (not before) 1 0 + cond (before && not after) 1 0
-      step true true stood = refl
-      step true false stood = refl
-      step false true stood = absurd (false≢true (stood refl))
-      step false false stood = refl
+  falls_once r t = let earlier = stood_before r t in grind (arith, nat_tests)
 
   pub progress_more : {r removed : ℕ} → Progress r removed → 0 < count_below (falls_after k m first r) m.states → Progress (suc r) (removed + count_below (falls_after k m first r) m.states)
   progress_more {r} {removed} before some =
@@ -142,32 +114,25 @@ module _ {S : Type 0} (k : Kind S) (m : Model S) (first : ℕ → Bool) where
   -- no state falls after r rounds
   module _ (r : ℕ) (quiet : count_below (falls_after k m first r) m.states ≡ 0) where
     stands_on : (t : ℕ) → t < m.states → standing k m first (suc r) t ≡ standing k m first r t
-    stands_on t below = step (standing k m first r t) (standing k m first (suc r) t) (stood_before r t) (count_zero (falls_after k m first r) m.states quiet t below)
-      where
-        step : (before after : Bool) → (after ≡ true → before ≡ true) → (before && not after) ≡ false → after ≡ before
-        step true true stood stays = refl
-        step true false stood stays = sym stays
-        step false true stood stays = sym (stood refl)
-        step false false stood stays = refl
+    stands_on t below = let earlier = stood_before r t in let stays = count_zero (falls_after k m first r) m.states quiet t below in grind (arith, nat_tests)
 
     -- so none falls later
     standing_kept : (n : ℕ) → r ≤ n → (t : ℕ) → t < m.states → standing k m first n t ≡ standing k m first r t
     standing_kept zero upto t below = let is : zero ≡ r = omega arith in ap (λ (n : ℕ). standing k m first n t) is
     standing_kept (suc n) upto t below =
-        ⊎_elim
-        (λ (is : suc n ≡ r). ap (λ (n : ℕ). standing k m first n t) is)
-        (λ (ne : suc n ≡ r → ⊥). same_next n r (standing_kept n (omega arith)) t below ∙ stands_on t below)
-        (cases_eq (suc n) r)
+        let before = standing_kept n in
+        let next = λ (same : (u : ℕ) → u < m.states → standing k m first n u ≡ standing k m first r u). same_next n r same t below in
+        let stays = stands_on t below in
+        grind (arith, nat_tests)
 
     pub rank_kept : (n t : ℕ) → r ≤ n → t < m.states → rank_within k m first n t ≡ rank_within k m first r t
     rank_kept zero t upto below = let is : zero ≡ r = omega arith in ap (λ (n : ℕ). rank_within k m first n t) is
     rank_kept (suc n) t upto below =
-        ⊎_elim
-        (λ (is : suc n ≡ r). ap (λ (n : ℕ). rank_within k m first n t) is)
-        (λ (ne : suc n ≡ r → ⊥).
-        let stays : falls_after k m first n t ≡ false = rw (standing_kept n (omega arith) t below, standing_kept (suc n) upto t below) (and-not_self (standing k m first r t)) in
-        stays_ranked n t stays ∙ rank_kept n t (omega arith) below)
-        (cases_eq (suc n) r)
+        let now = standing_kept n in
+        let next = standing_kept (suc n) upto t below in
+        let stays = stays_ranked n t in
+        let before = rank_kept n t in
+        grind (arith, nat_tests)
 
   -- after the last round the ranks are the final ones
   pub settled : {r removed : ℕ} → Progress r removed → count_below (falls_after k m first r) m.states ≡ 0 → (t : ℕ) → t < m.states → rank_within k m first r t ≡ rank_from k m first t

@@ -1,5 +1,5 @@
 -- A table as the definitions see it, and what is said of all its states together.
-use Rattle.std.specs.Prelude.{ℕ, zero, suc, ◌+◌, max, Bool, cond, Some, None, Option}
+use Rattle.std.specs.Prelude.{ℕ, zero, suc, ◌+◌, max, Bool, Some, None, Option, if◌then◌else◌}
 use Rattle.std.specs.Option.{option_or}
 use Rattle.amounts.specs.Kinds.{Kind}
 use Rattle.amounts.specs.declared.bounds.Bounds.{Bounds}
@@ -17,12 +17,12 @@ total_below k f (suc n) = k.total (total_below k f n) (f n)
 -- the lowest number below n that passes a test
 unfoldable pub lowest_below : (ℕ → Bool) → ℕ → Option ℕ
 lowest_below test zero = None
-lowest_below test (suc n) = option_or (lowest_below test n) (cond (test n) (Some n) None)
+lowest_below test (suc n) = option_or (lowest_below test n) (if test n then Some n else None)
 
 -- how many numbers below n pass a test
 unfoldable pub count_below : (ℕ → Bool) → ℕ → ℕ
 count_below test zero = 0
-count_below test (suc n) = count_below test n + cond (test n) 1 0
+count_below test (suc n) = count_below test n + (if test n then 1 else 0)
 
 -- the highest of f over the numbers below n, or 0
 unfoldable pub highest_below : (ℕ → ℕ) → ℕ → ℕ

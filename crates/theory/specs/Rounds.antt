@@ -1,5 +1,5 @@
 -- Rounds: which states fall, and in which round.
-use Rattle.std.specs.Prelude.{◌≡◌, ℕ, zero, suc, ◌<◌, Bool, true, cond, not, ◌&&◌, ◌||◌, ◌⊎◌, is_some, ◌==◌, nat_le}
+use Rattle.std.specs.Prelude.{◌≡◌, ℕ, zero, suc, ◌<◌, Bool, true, not, ◌&&◌, ◌||◌, ◌⊎◌, is_some, ◌==◌, nat_le, if◌then◌else◌}
 use Rattle.amounts.specs.Kinds.{Kind}
 use Rattle.theory.specs.Consistency.{Consistent, reason_of}
 use Rattle.theory.specs.Models.{Model, count_below, highest_below}
@@ -21,7 +21,7 @@ module _ {S : Type 0} (k : Kind S) (m : Model S) (first : ℕ → Bool) where
   -- the round, among the first r, in which t falls, or 0
   unfoldable pub rank_within : ℕ → ℕ → ℕ
   rank_within zero t = 0
-  rank_within (suc r) t = cond (falls_after r t) (suc r) (rank_within r t)
+  rank_within (suc r) t = if falls_after r t then suc r else rank_within r t
 
   -- in each round but the last a state falls, so that no state falls after as many rounds as there are states
   abbrev pub rank_from : ℕ → ℕ
