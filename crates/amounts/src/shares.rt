@@ -36,8 +36,9 @@ impl Amount for Share {
     }
 
     fn total(self, other: Share) -> Share {
+        let sum = u64::from(self.number) + u64::from(other.number);
         Share {
-            number: self.number.saturating_add(other.number).min(OVER),
+            number: sum.min(u64::from(OVER)) as u32,
         }
     }
 
