@@ -1,5 +1,5 @@
 -- What each call on a table answers and leaves.
-use Rattle.std.specs.Prelude.{◌≡◌, ℕ, ◌+◌, ◌-◌, ◌<◌, min, true, cond, List, length, is_some, Some, None, Ok, Err, Option, Result}
+use Rattle.std.specs.Prelude.{◌≡◌, ℕ, ◌+◌, ◌-◌, ◌<◌, min, true, List, length, is_some, Some, None, Ok, Err, Option, Result, if◌then◌else◌}
 use Rattle.amounts.specs.Kinds.{Kind}
 use Rattle.amounts.specs.declared.bounds.Bounds.{Bounds}
 use Rattle.refusals.specs.declared.Refusal.{Refusal}
@@ -45,11 +45,11 @@ pub record Sized {S : Type 0} (k : Kind S) (before after : Table S) (states star
 
 -- how many bands are held after a set
 abbrev pub count_after : {S : Type 0} → Kind S → List (Band S) → Band S → ℕ
-count_after k held b = cond (is_held held (key_of b)) (cond (both_nothing k (bounds_of b)) (length held - 1) (length held)) (cond (both_nothing k (bounds_of b)) (length held) (length held + 1))
+count_after k held b = if is_held held (key_of b) then (if both_nothing k (bounds_of b) then length held - 1 else length held) else (if both_nothing k (bounds_of b) then length held else length held + 1)
 
 -- the bounds that are read of a pair that was set
 abbrev pub read_back : {S : Type 0} → Kind S → Band S → Bounds S
-read_back k b = cond (both_nothing k (bounds_of b)) (record { low = k.nothing; high = k.nothing }) (bounds_of b)
+read_back k b = if both_nothing k (bounds_of b) then record { low = k.nothing; high = k.nothing } else bounds_of b
 
 -- what is read after an accepted set: for its pair what was set, for every other pair what was read before
 pub record Reads {S : Type 0} (k : Kind S) (before after : List (Band S)) (b : Band S) : Type 0 where

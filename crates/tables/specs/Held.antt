@@ -1,5 +1,5 @@
 -- The bands that a table holds, in ascending order of source, then target.
-use Rattle.std.specs.Prelude.{◌≡◌, ℕ, ◌+◌, ◌*◌, ◌<◌, ◌≤◌, Bool, true, false, cond, not, ◌&&◌, List, [], ◌∷◌, ◌++◌, length, Ok, Err, filter, Result, ◌==◌, ◌≢◌, nat_le, nat_lt, slice_index_or}
+use Rattle.std.specs.Prelude.{◌≡◌, ℕ, ◌+◌, ◌*◌, ◌<◌, ◌≤◌, Bool, true, false, not, ◌&&◌, List, [], ◌∷◌, ◌++◌, length, Ok, Err, filter, Result, ◌==◌, ◌≢◌, nat_le, nat_lt, slice_index_or, if◌then◌else◌}
 use Rattle.std.specs.List.{AllByRecursion}
 use Rattle.amounts.specs.Kinds.{Kind}
 use Rattle.amounts.specs.declared.bounds.Bounds.{Bounds}
@@ -34,11 +34,11 @@ pub record Position {S : Type 0} (pair : ℕ) (held : List (Band S)) (p : ℕ) :
 -- the band of a pair: nothing to nothing where none is held
 unfoldable pub band_in : {S : Type 0} → Kind S → List (Band S) → ℕ → ℕ → Bounds S
 band_in k [] s t = record { low = k.nothing; high = k.nothing }
-band_in k (b ∷ bs) s t = cond (key_of b == pair_of s t) (bounds_of b) (band_in k bs s t)
+band_in k (b ∷ bs) s t = if key_of b == pair_of s t then bounds_of b else band_in k bs s t
 
 unfoldable pub is_held : {S : Type 0} → List (Band S) → ℕ → Bool
 is_held [] pair = false
-is_held (b ∷ bs) pair = cond (key_of b == pair) true (is_held bs pair)
+is_held (b ∷ bs) pair = if key_of b == pair then true else is_held bs pair
 
 -- the held bands whose pairs come before, or after, a pair
 abbrev pub before : {S : Type 0} → ℕ → List (Band S) → List (Band S)
@@ -52,7 +52,7 @@ both_nothing k b = k.at_most b.low k.nothing && k.at_most b.high k.nothing
 
 -- what is held for a pair that has these bounds
 abbrev pub held_for : {S : Type 0} → Kind S → Band S → List (Band S)
-held_for k b = cond (both_nothing k (bounds_of b)) [] (b ∷ [])
+held_for k b = if both_nothing k (bounds_of b) then [] else b ∷ []
 
 -- b in place of the band of its pair
 abbrev pub with_band : {S : Type 0} → Kind S → Band S → List (Band S) → List (Band S)

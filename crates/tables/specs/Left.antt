@@ -1,5 +1,5 @@
 -- What a table holds as its user thinks of it, which calls it refuses, and what they leave.
-use Rattle.std.specs.Prelude.{◌≡◌, ℕ, ◌<◌, ◌≤◌, min, Bool, true, false, cond, ◌||◌, List, [], length, Some, None, Ok, Err, Option, Result, ◌==◌, nat_le, nat_lt}
+use Rattle.std.specs.Prelude.{◌≡◌, ℕ, ◌<◌, ◌≤◌, min, Bool, true, false, ◌||◌, List, [], length, Some, None, Ok, Err, Option, Result, ◌==◌, nat_le, nat_lt, if◌then◌else◌}
 use Rattle.std.specs.Option.{option_or, ok_or}
 use Rattle.std.specs.List.{AllByRecursion}
 use Rattle.amounts.specs.Kinds.{Kind, AtMost}
@@ -43,8 +43,9 @@ leaves (Some refusal) before after = before
 -- a number of states that a table cannot have
 abbrev pub size_refusal : {S : Type 0} → Left S → ℕ → ℕ → Option Refusal
 size_refusal l states start =
-    cond (states == 0 || (nat_lt 256 states || nat_lt l.ranks states)) (Some (StateCount states))
-    (cond (nat_le states start) (Some (NoSuchState 0)) None)
+    if states == 0 || (nat_lt 256 states || nat_lt l.ranks states)
+    then Some (StateCount states)
+    else (if nat_le states start then Some (NoSuchState 0) else None)
 
 -- the bands are cleared, and a verdict lapses
 abbrev pub sized : {S : Type 0} → Left S → ℕ → ℕ → Left S
@@ -55,17 +56,17 @@ abbrev pub band_asked : {S : Type 0} → Asked S → Band S
 band_asked asked = record { source = asked.source; target = asked.target; low = asked.low; high = asked.high }
 
 abbrev pub no_states : ℕ → Option Refusal
-no_states states = cond (states == 0) (Some NoStates) None
+no_states states = if states == 0 then Some NoStates else None
 
 -- the state argument at a position
 abbrev pub no_such_state : ℕ → ℕ → ℕ → Option Refusal
-no_such_state states position t = cond (nat_le states t) (Some (NoSuchState position)) None
+no_such_state states position t = if nat_le states t then Some (NoSuchState position) else None
 
 abbrev pub no_amount : {S : Type 0} → Kind S → Bound → S → Option Refusal
-no_amount k bound x = cond (k.at_most x k.full) None (Some (NoAmount bound))
+no_amount k bound x = if k.at_most x k.full then None else Some (NoAmount bound)
 
 abbrev pub no_free_place : {S : Type 0} → Kind S → Left S → Band S → Option Refusal
-no_free_place k l b = cond (lacks_place k b l.places l.held) (Some NoFreePlace) None
+no_free_place k l b = if lacks_place k b l.places l.held then Some NoFreePlace else None
 
 -- the arguments of a set make no band of a table with so many states
 abbrev pub no_band : {S : Type 0} → Kind S → ℕ → Band S → Option Refusal
@@ -87,7 +88,7 @@ abbrev pub judged : {S : Type 0} → Left S → Left S
 judged l = record { places = l.places; ranks = l.ranks; states = l.states; start = l.start; held = l.held; verdict = true }
 
 abbrev pub no_verdict : Bool → Option Refusal
-no_verdict verdict = cond verdict None (Some NoVerdict)
+no_verdict verdict = if verdict then None else Some NoVerdict
 
 -- a question about a state, after check
 abbrev pub no_question : ℕ → ℕ → Bool → Option Refusal
@@ -104,11 +105,11 @@ rank_left k l t = rank_of k (model_in k l) t
 
 -- 0 stands for no rank
 abbrev pub as_rank : ℕ → Option ℕ
-as_rank r = cond (r == 0) None (Some r)
+as_rank r = if r == 0 then None else Some r
 
 -- why t fell, if it did: it is not locally consistent with the states that had not fallen before its round
 abbrev pub reason_left : {S : Type 0} → Kind S → Left S → ℕ → Option Reason
-reason_left k l t = cond (rank_left k l t == 0) None (reason_of k (model_in k l) (not_before (rank_left k l) (rank_left k l t)) t)
+reason_left k l t = if rank_left k l t == 0 then None else reason_of k (model_in k l) (not_before (rank_left k l) (rank_left k l t)) t
 
 -- a standing state has none
 abbrev pub reason_answer : {S : Type 0} → Kind S → Left S → ℕ → Result Reason Refusal

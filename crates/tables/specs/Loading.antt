@@ -1,5 +1,5 @@
 -- What a load of records leaves, and where it stops.
-use Rattle.std.specs.Prelude.{◌≡◌, ℕ, ◌+◌, cond, List, [], ◌∷◌, length, is_some, Some, None, Ok, Err, Option, Result, ◌==◌}
+use Rattle.std.specs.Prelude.{◌≡◌, ℕ, ◌+◌, List, [], ◌∷◌, length, is_some, Some, None, Ok, Err, Option, Result, ◌==◌, if◌then◌else◌}
 use Rattle.std.specs.Option.{option_or, unwrap_or}
 use Rattle.amounts.specs.Kinds.{Kind}
 use Rattle.records.specs.Contents.{Contents, contents}
@@ -21,7 +21,7 @@ use Rattle.tables.specs.declared.table.Table.{Table}
 -- `amount_of` gives the amount that a record number stands for, if it stands for one
 module _ {S : Type 0} (k : Kind S) (amount_of : ℕ → Option S) where
   abbrev pub no_number : Bound → ℕ → Option Refusal
-  no_number bound n = cond (is_some (amount_of n)) None (Some (NoAmount bound))
+  no_number bound n = if is_some (amount_of n) then None else Some (NoAmount bound)
 
   -- the band of a record whose numbers stand for amounts
   abbrev pub band_said : ℕ → ℕ → ℕ → ℕ → Band S
@@ -77,7 +77,7 @@ load_result k amount_of l bytes = load_answer (contents bytes) (load_of k amount
 
 -- a table without states reads nothing
 pub record Loads {S : Type 0} (k : Kind S) (amount_of : ℕ → Option S) (before after : Table S) (bytes : List ℕ) (r : Result Counts LoadFault) : Type 0 where
-  pub answer : r ≡ cond (before.states == 0) (Err (OfTable 0 NoStates)) (load_result k amount_of (left_of before) bytes)
-  pub left : left_of after ≡ cond (before.states == 0) (left_of before) (load_of k amount_of (left_of before) bytes).left
+  pub answer : r ≡ if before.states == 0 then Err (OfTable 0 NoStates) else load_result k amount_of (left_of before) bytes
+  pub left : left_of after ≡ if before.states == 0 then left_of before else (load_of k amount_of (left_of before) bytes).left
   pub refused : before.states ≡ 0 → after ≡ before
   pub sound : Sound k after

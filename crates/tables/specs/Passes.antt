@@ -1,5 +1,5 @@
 -- One pass over the held bands of a source, by which the engine finds the reason that the definition asks for.
-use Rattle.std.specs.Prelude.{ℕ, Bool, cond, not, List, [], ◌∷◌, Some, None, Option, ◌==◌, count_by, slice_index}
+use Rattle.std.specs.Prelude.{ℕ, Bool, not, List, [], ◌∷◌, Some, None, Option, ◌==◌, count_by, slice_index, if◌then◌else◌}
 use Rattle.std.specs.Option.{option_or}
 use Rattle.amounts.specs.Kinds.{Kind}
 use Rattle.theory.specs.Consistency.{first_reason}
@@ -22,7 +22,7 @@ abbrev pub standing_count : List ℕ → ℕ
 standing_count ranks = count_by (λ r. r == 0) ranks
 
 abbrev pub crossing : {S : Type 0} → Kind S → Band S → Option ℕ
-crossing k b = cond (k.at_most b.low b.high) None (Some b.target)
+crossing k b = if k.at_most b.low b.high then None else Some b.target
 
 -- the reason, once no target is lost: the lowest crossed one and the totals are known
 abbrev pub ended : {S : Type 0} → Kind S → Option ℕ → S → S → Option Reason
@@ -32,7 +32,8 @@ ended k crossed low high = first_reason None crossed (not (k.at_most low k.full)
 unfoldable pub passed : {S : Type 0} → Kind S → (ℕ → Bool) → ℕ → Option ℕ → S → S → List (Band S) → Option Reason
 passed k x s crossed low high [] = ended k crossed low high
 passed k x s crossed low high (b ∷ bs) =
-    cond (b.source == s)
-    (cond (x b.target) (passed k x s (option_or crossed (crossing k b)) (k.total low b.low) (k.total high b.high) bs)
-    (cond (k.at_most b.low k.nothing) (passed k x s crossed low high bs) (Some (Lost b.target))))
-    (ended k crossed low high)
+    if b.source == s
+    then (if x b.target
+    then passed k x s (option_or crossed (crossing k b)) (k.total low b.low) (k.total high b.high) bs
+    else (if k.at_most b.low k.nothing then passed k x s crossed low high bs else Some (Lost b.target)))
+    else ended k crossed low high
