@@ -1,5 +1,5 @@
 -- What each call on a table answers and leaves.
-use Rattle.std.specs.Prelude.{◌≡◌, ℕ, ◌+◌, ◌-◌, ◌<◌, min, true, List, length, is_some, Some, None, Ok, Err, Option, Result, if◌then◌else◌}
+use Rattle.std.specs.Prelude.{IsSome, IsTrue, ◌≡◌, ℕ, ◌+◌, ◌-◌, ◌<◌, min, List, length, Some, None, Ok, Err, Option, Result, if◌then◌else◌}
 use Rattle.amounts.specs.Kinds.{Kind}
 use Rattle.amounts.specs.declared.bounds.Bounds.{Bounds}
 use Rattle.refusals.specs.declared.Refusal.{Refusal}
@@ -30,7 +30,7 @@ left_of t = record {
 -- what open gives and every call keeps: the held bands are in order, and while a verdict is in force the rank places hold the ranks
 pub record Sound {S : Type 0} (k : Kind S) (t : Table S) : Type 0 where
   pub proper : Proper k (left_of t)
-  pub ranked : t.checked ≡ true → (u : ℕ) → u < t.states → rank_in t.ranks.now u ≡ rank_left k (left_of t) u
+  pub ranked : IsTrue t.checked → (u : ℕ) → u < t.states → rank_in t.ranks.now u ≡ rank_left k (left_of t) u
 
 -- the places are still those that the caller lent to open
 pub record Lent {S : Type 0} (before after : Table S) : Type 0 where
@@ -40,7 +40,7 @@ pub record Lent {S : Type 0} (before after : Table S) : Type 0 where
 pub record Sized {S : Type 0} (k : Kind S) (before after : Table S) (states start : ℕ) (r : Result (Unit {0}) Refusal) : Type 0 where
   pub answer : r ≡ answered (size_refusal (left_of before) states start) tt
   pub left : left_of after ≡ leaves (size_refusal (left_of before) states start) (left_of before) (sized (left_of before) states start)
-  pub refused : is_some (size_refusal (left_of before) states start) ≡ true → after ≡ before
+  pub refused : IsSome (size_refusal (left_of before) states start) → after ≡ before
   pub sound : Sound k after
 
 -- how many bands are held after a set
@@ -61,7 +61,7 @@ pub record BandSet {S : Type 0} (k : Kind S) (before after : Table S) (b : Band 
   pub answer : r ≡ answered (set_refusal k (left_of before) b) tt
   pub left : left_of after ≡ leaves (set_refusal k (left_of before) b) (left_of before) (banded k (left_of before) b)
   pub reads : set_refusal k (left_of before) b ≡ None → Reads k (left_of before).held (left_of after).held b
-  pub refused : is_some (set_refusal k (left_of before) b) ≡ true → after ≡ before
+  pub refused : IsSome (set_refusal k (left_of before) b) → after ≡ before
   pub sound : Sound k after
 
 -- the rounds were run in the rank places, and nothing else has changed

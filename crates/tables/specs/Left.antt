@@ -1,5 +1,5 @@
 -- What a table holds as its user thinks of it, which calls it refuses, and what they leave.
-use Rattle.std.specs.Prelude.{◌≡◌, ℕ, ◌<◌, ◌≤◌, min, Bool, true, false, ◌||◌, List, [], length, Some, None, Ok, Err, Option, Result, ◌==◌, nat_le, nat_lt, if◌then◌else◌}
+use Rattle.std.specs.Prelude.{IsFalse, IsTrue, ℕ, ◌<◌, ◌≤◌, min, Bool, true, false, ◌||◌, List, [], length, Some, None, Ok, Err, Option, Result, ◌==◌, nat_le, nat_lt, if◌then◌else◌}
 use Rattle.std.specs.Option.{option_or, ok_or}
 use Rattle.std.specs.List.{AllByRecursion}
 use Rattle.amounts.specs.Kinds.{Kind, AtMost}
@@ -123,5 +123,5 @@ pub record Proper {S : Type 0} (k : Kind S) (l : Left S) : Type 0 where
   pub fits : length l.held ≤ l.places
   pub lows : AllByRecursion (λ b. AtMost k b.low k.full) l.held
   pub highs : AllByRecursion (λ b. AtMost k b.high k.full) l.held
-  pub some : AllByRecursion (λ b. both_nothing k (bounds_of b) ≡ false) l.held
-  pub of_states : l.verdict ≡ true → 0 < l.states
+  pub some : AllByRecursion (λ b. IsFalse (both_nothing k (bounds_of b))) l.held
+  pub of_states : IsTrue l.verdict → 0 < l.states

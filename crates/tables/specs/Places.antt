@@ -1,5 +1,5 @@
 -- The bands that a table holds in the caller's places, and what a put makes of them.
-use Rattle.std.specs.Prelude.{◌≡◌, min, true, false, List, length, take, Ok, Err, Result, if◌then◌else◌}
+use Rattle.std.specs.Prelude.{IsFalse, IsTrue, ◌≡◌, min, List, length, take, Ok, Err, Result, if◌then◌else◌}
 use Rattle.amounts.specs.Kinds.{Kind}
 use Rattle.refusals.specs.declared.Refusal.{Refusal}
 use Rattle.refusals.specs.declared.Refusal.TheVariants.{NoFreePlace}
@@ -22,5 +22,5 @@ pub record KeepsRest {S : Type 0} (before after : Table S) : Type 0 where
 -- b was put among the held bands, where there is a place for it
 pub record Placed {S : Type 0} (k : Kind S) (b : Band S) (before after : Table S) (r : Result (Unit {0}) Refusal) : Type 0 where
   pub answer : r ≡ if lacks_place k b (min (length before.bands.now) 4_096) (bands_of before) then Err NoFreePlace else Ok tt
-  pub puts : lacks_place k b (min (length before.bands.now) 4_096) (bands_of before) ≡ false → bands_of after ≡ with_band k b (bands_of before)
-  pub refused : lacks_place k b (min (length before.bands.now) 4_096) (bands_of before) ≡ true → after ≡ before
+  pub puts : IsFalse (lacks_place k b (min (length before.bands.now) 4_096) (bands_of before)) → bands_of after ≡ with_band k b (bands_of before)
+  pub refused : IsTrue (lacks_place k b (min (length before.bands.now) 4_096) (bands_of before)) → after ≡ before

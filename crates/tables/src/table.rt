@@ -1,5 +1,5 @@
 // The table: bands between states, over memory that the caller lends.
-ghost use Rattle.std.specs.Prelude.{◌≡◌, ◌<◌, ◌≤◌, ◌||◌, length, Ok, ◌==◌, nat_lt};
+ghost use Rattle.std.specs.Prelude.{IsTrue, ◌≡◌, ◌<◌, ◌≤◌, ◌||◌, length, Ok, ◌==◌, nat_lt};
 
 use crate::arguments::{Asked, check_sized, check_state, checked_band};
 use crate::band::Band;
@@ -30,7 +30,6 @@ pub struct Table<'a, K> {
 }
 
 impl<'a, K: Amount> Table<'a, K> {
-    ghost use Rattle.std.specs.Prelude.{true};
     ghost use Rattle.tables.specs.Calls.{left_of, Sound, Lent, Sized, BandSet, Checked, RoundsRun, RankAnswer, ReasonAnswer};
     ghost use Rattle.tables.specs.Passes.{rank_in};
     ghost use Rattle.tables.specs.Left.{answered, as_rank, opened, band_asked, question_refusal, reason_left};
@@ -161,7 +160,7 @@ impl<'a, K: Amount> Table<'a, K> {
     /// Judges a ranked state once more.
     fn why(&self, state: usize) -> Option<Reason>
         requires inside { state < self.now.states }
-        ensures { Sound K.Amount.kind self.now → self.now.checked ≡ true → result ≡ reason_left K.Amount.kind (left_of self.now) state }
+        ensures { Sound K.Amount.kind self.now → IsTrue self.now.checked → result ≡ reason_left K.Amount.kind (left_of self.now) state }
     {
         let round = self.rank_of(state)?;
         let set = Remaining {
