@@ -5,6 +5,7 @@ ghost use Rattle.amounts.specs.Kinds.{Kind, Laws, Shareable};
 use crate::bounds::{Bounds, Parts};
 
 /// An amount of some kind: a plain value, with no invariant, since amounts lie in memory that the caller lends.
+/// No function has a body here, although two kinds write some alike: a body would have to know amounts as numbers.
 pub trait Amount: Copy {
     ghost kind: { Kind Self };
 

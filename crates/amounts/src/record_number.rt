@@ -4,6 +4,7 @@ ghost use Rattle.amounts.specs.Kinds.{AtMost};
 
 use crate::amount::Amount;
 
+// `TryFrom` would want an error type that says nothing and a second impl for each kind; load has its own refusal.
 pub trait RecordNumber: Amount {
     /// The amount that a number stands for, if it stands for any.
     ghost amount_of: { ℕ → Option Self };

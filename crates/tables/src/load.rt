@@ -33,6 +33,7 @@ struct Numbered<F> {
     fault: F,
 }
 
+// Each layer's fault has a variant and a field of its own, so each has its own `From`.
 impl From<Numbered<RecordFault>> for LoadFault {
     ghost from_gives = { λ numbered r. r ≡ Records numbered.index numbered.fault };
 

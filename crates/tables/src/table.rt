@@ -14,15 +14,18 @@ use theory::reason::Reason;
 /// A table has at most so many states.
 pub const STATES: usize = 256;
 
-/// A table over the caller's band places and rank places. Before the first size it has no states.
+/// A table over the caller's band places and rank places.
 /// That its bands are in order and its ranks right is no ghost field: they are not while they are written.
 #[derive(Drop)]
 pub struct Table<'a, K> {
     pub(crate) bands: &'a mut [Band<K>],
+    /// Plain numbers, as the caller lends them: 0 is no rank.
     pub(crate) ranks: &'a mut [u16],
     pub(crate) held: usize,
+    /// 0 before the first size. An `Option` would be asked for at each test of a state, which 0 fails by itself.
     pub(crate) states: usize,
     pub(crate) start: usize,
+    /// Whether a verdict is in force. Its ranks lie in the caller's memory, so no value goes with it.
     pub(crate) checked: bool,
     ghost within: { held ≤ length bands.now },
     ghost few: { states ≤ 256 },
