@@ -1,32 +1,34 @@
--- `put_lines`: a line more, and the closing line.
+-- `put_lines`: no line yet, one more, and the closing line; with room for all, none is refused.
 use Rattle.std.proofs.Common.{◌≡◌, refl, ◌∙◌, arith}
-use Rattle.tables.proofs.Refusing.{answered_ok}
 use Rattle.tables.specs.Calls.{left_of}
 use Rattle.text.proofs.Writes.{not_refused}
-use Rattle.reports.proofs.StateLines.{lines_none, lines_more, lines_all, next_fits}
+use Rattle.reports.proofs.StateLines.{lines_none, lines_more, lines_all, next_fits, rank_told}
 use Rattle.reports.proofs.report.put_lines.Goals as goal
 
 pub loop-state-init : goal.loop-state-init
-loop-state-init c = (refl, lines_none (left_of c.args.table.now) c.args.text.now)
+loop-state-init c = record { same = refl; lines = lines_none (left_of c.args.table.now) c.args.page.now (omega (arith, c.requires.room)) }
 
-pub returns-in_err-end : goal.returns-in_err-end
-returns-in_err-end c =
-    let same = c.loop-state.invariant.0 in
-    let rank = (answered_ok _ _ _ (rw same at (c.in-Ok.ensures.answer (rw same c.requires.sound)))).1 in
+pub returns-in_err-put_state : goal.returns-in_err-put_state
+returns-in_err-put_state c =
+    let sofar = c.loop-state.invariant in
+    let rank = rank_told (left_of c.args.table.now) c.loop-state.state c.in-Ok.rank (rw sofar.same at (c.in-Ok.ensures.answer (rw sofar.same c.requires.sound))) in
     let inside = rw c.requires.verdict.states at c.loop-state-test.true in
-    let fits = next_fits c.loop-state.invariant.1 c.requires.sound.proper.orderly.few c.requires.room inside in
-    absurd (not_refused c.loop-state.text c.loop-state.end _ c.put_state.new.text c.in_err-end.field-0.0 (rw rank at c.in_err-end.ensures) fits)
+    absurd (not_refused (rw rank at c.in_err-put_state.ensures) (next_fits sofar.lines c.requires.sound.proper.orderly.few c.requires.room inside))
 
 pub loop-state-preserved : goal.loop-state-preserved
 loop-state-preserved c =
-    let same = c.loop-state.invariant.0 in
-    let rank = (answered_ok _ _ _ (rw same at (c.in-Ok.ensures.answer (rw same c.requires.sound)))).1 in
+    let sofar = c.loop-state.invariant in
+    let rank = rank_told (left_of c.args.table.now) c.loop-state.state c.in-Ok.rank (rw sofar.same at (c.in-Ok.ensures.answer (rw sofar.same c.requires.sound))) in
     let inside = rw c.requires.verdict.states at c.loop-state-test.true in
-    (c.rank.ensures.same ∙ same, lines_more c.loop-state.invariant.1 c.requires.sound.proper.orderly.few c.requires.room inside c.put_state.new.text c.in_ok-end.end c.put_state.auto.text (rw rank at c.in_ok-end.ensures))
+    record {
+      same = c.rank.ensures.same ∙ sofar.same;
+      lines = lines_more sofar.lines c.requires.sound.proper.orderly.few c.requires.room inside c.put_state.new.page (rw rank at c.in_ok-put_state.ensures);
+    }
 
 pub returns : goal.returns
 returns c =
+    let sofar = c.loop-state.invariant in
     let all : c.loop-state.state ≡ c.args.table.now.states = omega (arith, c.requires.verdict.states, c.loop-state-test.false, c.loop-state.auto.state-end) in
     let put = rw (c.requires.verdict.removed, c.requires.verdict.states, c.requires.verdict.rounds) at c.put_removed.ensures in
-    let lines = lines_all c.loop-state.invariant.1 c.requires.sound.proper.orderly.few c.requires.room all put in
-    record { writes = lines.0; short = lines.1; same = c.loop-state.invariant.0 }
+    let both = lines_all sofar.lines c.requires.sound.proper.orderly.few c.requires.room all put in
+    record { writes = both.0; short = both.1; same = sofar.same }

@@ -5,4 +5,4 @@ use Rattle.reports.proofs.StateLines.{Lines}
 use Rattle.reports.proofs.report.put_lines.Given as goal
 
 abbrev pub invariant-loop-state : goal.invariant-loop-state
-invariant-loop-state l = (l.table ≡ l.initial.table) × Lines (left_of l.initial.table) l.initial.text l.text l.end l.state
+invariant-loop-state l = record { same : l.table ≡ l.initial.table; lines : Lines (left_of l.initial.table) l.initial.page l.page l.state }
