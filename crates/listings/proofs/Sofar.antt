@@ -64,8 +64,8 @@ module _ {bytes : List ℕ} {first : Page} {reader : Reader} {page : Page} {coun
     line_fits : length (line e) ≤ 35
     line_fits = line_short e reader.cursor says.0
 
-    pub next_fits : page.at + length (line e) ≤ length page.bytes.now
-    next_fits = writes.next_fits sofar.put (line e) (omega (arith, length-append told (line e), line_fits, whole_record reader sofar.read.input e says, sofar.read.at, sofar.short, sofar.few, sofar.room))
+    pub not_refused : {after : Page} {x : TooShort} → PutOn page (line e) after (Err x) → ⊥
+    not_refused = writes.not_refused sofar.put (line e) (omega (arith, length-append told (line e), line_fits, whole_record reader sofar.read.input e says, sofar.read.at, sofar.short, sofar.few, sofar.room))
 
     pub next : (reader_after : Reader) (after : Page) (next_counts : Counts) → reader_after.bytes ≡ reader.bytes → reader_after.cursor ≡ reader.cursor + 12 → PutOn page (line e) after (Ok tt) → next_counts ≡ with_one counts e → Sofar bytes first reader_after after next_counts
     next reader_after after next_counts same moved p counted =

@@ -1,5 +1,5 @@
 -- The lines of a report: how long they can be, one state more, and the closing line.
-use Rattle.std.proofs.Common.{◌≡◌, ℕ, suc, ◌+◌, ◌*◌, ◌<◌, ◌≤◌, Bool, true, false, cond, eqb, List, ◌++◌, length, Some, None, Ok, Option, Result, subst, arith, length-append}
+use Rattle.std.proofs.Common.{◌≡◌, ℕ, suc, ◌+◌, ◌*◌, ◌<◌, ◌≤◌, Bool, true, false, cond, eqb, List, ◌++◌, length, Some, None, Ok, Err, Option, Result, subst, arith, length-append}
 use Rattle.std.proofs.lemmas.Fmt.{length-decimal-le}
 use Rattle.amounts.specs.Shares.{shares}
 use Rattle.amounts.specs.declared.shares.Share.{Share}
@@ -52,8 +52,8 @@ module _ {l : Left Share} {first page : Page} {n : ℕ} (lines : Lines l first p
     line_fits : length line ≤ 11
     line_fits = state_short n (rank_left shares l n) (omega arith) (omega (arith, rank_bounded shares (model_in shares l) n))
 
-    pub next_fits : page.at + length line ≤ length page.bytes.now
-    next_fits = writes.next_fits lines.put line (omega (arith, length-append (state_lines l n) line, line_fits, lines.short))
+    pub not_refused : {after : Page} {x : TooShort} → PutOn page line after (Err x) → ⊥
+    not_refused = writes.not_refused lines.put line (omega (arith, length-append (state_lines l n) line, line_fits, lines.short))
 
     pub lines_more : (next : Page) → PutOn page line next (Ok tt) → Lines l first next (n + 1)
     unfolding state_lines

@@ -18,5 +18,5 @@ module _ (bytes : List ℕ) (i : ℕ) (below : i < length bytes) where
   hexadecimal_more = ap hexadecimal (take_more bytes i 0 below) ∙ hexadecimal-append (take i bytes) (get_or bytes i 0 ∷ [])
 
   -- with room for all, there is room for it
-  pub byte_room : (n at : ℕ) → at + 2 * length bytes ≤ n → at + length (hexadecimal (take i bytes) ++ hexadecimal (get_or bytes i 0 ∷ [])) ≤ n
-  byte_room n at room = omega (arith, ap length hexadecimal_more, length-hexadecimal (take (i + 1) bytes), length-take-le (i + 1) bytes (omega arith))
+  pub byte_room : (n at : ℕ) → at + length (hexadecimal bytes) ≤ n → at + length (hexadecimal (take i bytes) ++ hexadecimal (get_or bytes i 0 ∷ [])) ≤ n
+  byte_room n at room = omega (arith, ap length hexadecimal_more, length-hexadecimal bytes, length-hexadecimal (take (i + 1) bytes), length-take-le (i + 1) bytes (omega arith))

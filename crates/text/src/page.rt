@@ -1,10 +1,10 @@
 // Pages: bytes that the caller lends, and where the next text in them begins.
-ghost use Rattle.std.specs.Prelude.{◌≡◌, length, decimal};
+ghost use Rattle.std.specs.Prelude.{◌≡◌, ◌+◌, ◌≤◌, length, decimal};
 ghost use Rattle.text.specs.Pages.{PutOn};
 ghost use Rattle.text.specs.Pieces.{bytes_of, printed};
 ghost use Rattle.text.specs.Puts.{end_of, hexadecimal};
 
-use crate::hex::digit;
+use crate::hex::{digits, hex_len};
 use crate::piece::{Piece, pieces_len};
 use crate::room::TooShort;
 use itoa::Buffer;
@@ -47,9 +47,16 @@ impl<'a> Page<'a> {
         ensures { PutOn self.old (hexadecimal bytes.now) self.new result }
     {
         // All the room is looked for first, so that a refusal leaves the page as it was.
-        self.end_of(2 * bytes.len())?;
+        self.end_of(hex_len(bytes))?;
+        self.put_digits(bytes)
+    }
+
+    fn put_digits(&mut self, bytes: &[u8]) -> Result<(), TooShort>
+        requires { self.old.at + length (hexadecimal bytes.now) ≤ length self.old.bytes.now }
+        ensures { PutOn self.old (hexadecimal bytes.now) self.new result }
+    {
         for byte in bytes {
-            self.put_word(&[digit(byte / 16), digit(byte % 16)])?;
+            self.put_word(&digits(*byte))?;
         }
         Ok(())
     }
@@ -60,6 +67,13 @@ impl<'a> Page<'a> {
     {
         // All the room is looked for first, so that a refusal leaves the page as it was.
         self.end_of(pieces_len(pieces))?;
+        self.put_each(pieces)
+    }
+
+    fn put_each(&mut self, pieces: &[Piece<'_>]) -> Result<(), TooShort>
+        requires { self.old.at + length (printed pieces.now) ≤ length self.old.bytes.now }
+        ensures { PutOn self.old (printed pieces.now) self.new result }
+    {
         for piece in pieces {
             self.put_piece(piece)?;
         }

@@ -3,6 +3,7 @@ ghost use Rattle.std.specs.Prelude.{◌≡◌, ◌-◌, ◌^◌, min, length};
 ghost use Rattle.text.specs.Pieces.{bytes_of, printed};
 ghost use Rattle.text.specs.declared.piece.Piece.TheVariants.{Decimal};
 
+use crate::hex::hex_len;
 use itoa::Buffer;
 
 /// A piece of text: bytes as they stand, a number in decimal, or bytes in hexadecimal.
@@ -20,7 +21,7 @@ impl Piece<'_> {
         match self {
             Piece::Word(word) => word.len(),
             Piece::Decimal(number) => Buffer::new().format(*number).len(),
-            Piece::Hex(bytes) => 2 * bytes.len(),
+            Piece::Hex(bytes) => hex_len(bytes),
         }
     }
 }

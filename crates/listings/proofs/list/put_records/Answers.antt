@@ -2,25 +2,14 @@
 use Rattle.std.proofs.Common.{[], ap, arith}
 use Rattle.records.proofs.Contents.{holds}
 use Rattle.records.specs.Reading.{said}
-use Rattle.text.proofs.Writes.{none_put, not_refused}
 use Rattle.records.proofs.Seen.{seen_none}
-use Rattle.listings.proofs.Sofar.{closed_at_end, closed_at_fault, next_fits, next}
+use Rattle.listings.proofs.Sofar.{closed_at_end, closed_at_fault, not_refused, next}
 use Rattle.listings.proofs.list.put_records.Goals as goal
-
-pub records-init : goal.records-init
-records-init c = record {
-  few = c.requires.few;
-  room = c.requires.room;
-  seen = [];
-  read = seen_none c.args.records.now c.new-reader.result c.none-counts.result (omega (arith, c.requires.few)) (ap (λ b. b.now) c.new-reader.ensures.input) c.new-reader.ensures.start c.none-counts.ensures;
-  put = none_put c.args.page.now (omega arith);
-  short = omega arith;
-}
 
 pub returns-in_err-put_record-in-Ok-Some : goal.returns-in_err-put_record-in-Ok-Some
 returns-in_err-put_record-in-Ok-Some c =
     let read = rw c.in-Ok-Some.field-0-is at c.in-Ok-Some.ensures in
-    absurd (not_refused c.in_err-put_record-in-Ok-Some.ensures (next_fits c.records.invariant (said c.in-Ok-Some.entry) read.stands.answer read.stands.tells.told))
+    absurd (not_refused c.records.invariant (said c.in-Ok-Some.entry) read.stands.answer read.stands.tells.told c.in_err-put_record-in-Ok-Some.ensures)
 
 pub records-preserved : goal.records-preserved
 records-preserved c =

@@ -1,8 +1,7 @@
 -- `put_lines`: no line yet, one more, and the closing line; with room for all, none is refused.
 use Rattle.std.proofs.Common.{◌≡◌, refl, ◌∙◌, arith}
 use Rattle.tables.specs.Calls.{left_of}
-use Rattle.text.proofs.Writes.{not_refused}
-use Rattle.reports.proofs.StateLines.{lines_none, lines_more, lines_all, next_fits, rank_told}
+use Rattle.reports.proofs.StateLines.{lines_none, lines_more, lines_all, not_refused, rank_told}
 use Rattle.reports.proofs.report.put_lines.Goals as goal
 
 pub loop-state-init : goal.loop-state-init
@@ -13,7 +12,7 @@ returns-in_err-put_state c =
     let sofar = c.loop-state.invariant in
     let rank = rank_told (left_of c.args.table.now) c.loop-state.state c.in-Ok.rank (rw sofar.same at (c.in-Ok.ensures.answer (rw sofar.same c.requires.sound))) in
     let inside = rw c.requires.verdict.states at c.loop-state-test.true in
-    absurd (not_refused (rw rank at c.in_err-put_state.ensures) (next_fits sofar.lines c.requires.sound.proper.orderly.few c.requires.room inside))
+    absurd (not_refused sofar.lines c.requires.sound.proper.orderly.few c.requires.room inside (rw rank at c.in_err-put_state.ensures))
 
 pub loop-state-preserved : goal.loop-state-preserved
 loop-state-preserved c =

@@ -5,9 +5,6 @@ use Rattle.reports.proofs.Largest.{sofar_none, sofar_more, counted_at_end, count
 use Rattle.reports.proofs.states.state_count.Goals as goal
 use Rattle.reports.proofs.states.state_count.Goals.{in_default, in_default-2}
 
-pub records-init : goal.records-init
-records-init c = sofar_none c.args.records.now c.new-reader.result (ap (λ b. b.now) c.new-reader.ensures.input) c.new-reader.ensures.start
-
 pub records-preserved : goal.records-preserved
 records-preserved c =
     let read = rw c.in-Ok-Some.field-0-is at c.in-Ok-Some.ensures in
