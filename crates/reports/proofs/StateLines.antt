@@ -4,8 +4,9 @@ use Rattle.std.proofs.lemmas.Fmt.{length-decimal-le}
 use Rattle.amounts.specs.Shares.{shares}
 use Rattle.amounts.specs.declared.shares.Share.{Share}
 use Rattle.tables.proofs.Refusing.{answered_ok}
-use Rattle.tables.specs.Calls.{RankAnswer}
+use Rattle.tables.specs.Calls.{left_of, RankAnswer, Sound}
 use Rattle.tables.specs.Left.{Left, model_in, rank_left, as_rank, question_refusal}
+use Rattle.tables.specs.declared.table.Table.{Table}
 use Rattle.text.proofs.Writes as writes
 use Rattle.text.specs.Pages.{PutOn}
 use Rattle.text.specs.declared.page.Page.{Page}
@@ -31,9 +32,10 @@ removed_short removed states rounds a b c =
     let turns = length-decimal-le 3 rounds (omega arith) (omega arith) (omega arith) in
     simp length-append (omega (arith, fallen, all, turns))
 
--- the rank that a table answers for a state
-pub rank_told : (l : Left Share) (t : ℕ) (rank : Option ℕ) → RankAnswer shares l t (Ok rank) → rank ≡ as_rank (rank_left shares l t)
-rank_told l t rank answer = (answered_ok (question_refusal l t) (as_rank (rank_left shares l t)) rank answer).1
+-- the rank that a table answers for a state, where it is still the table that it was
+pub rank_told : {t before : Table Share} (state : ℕ) (rank : Option ℕ) → t ≡ before → Sound shares before → (Sound shares t → RankAnswer shares (left_of t) state (Ok rank)) → rank ≡ as_rank (rank_left shares (left_of before) state)
+rank_told {t} {before} state rank same sound answer =
+    (answered_ok (question_refusal (left_of before) state) (as_rank (rank_left shares (left_of before) state)) rank (rw same at (answer (rw same sound)))).1
 
 -- the lines of the first n states are put, on a page with room for all
 pub record Lines (l : Left Share) (first page : Page) (n : ℕ) : Type 0 where

@@ -30,9 +30,7 @@ impl Piece<'_> {
 pub(crate) fn pieces_len(pieces: &[Piece<'_>]) -> usize
     ensures { result ≡ min (length (printed pieces.now)) (2 ^ 64 - 1) }
 {
-    pieces
-        .iter()
-        .fold(0usize, |sum, piece| sum.saturating_add(piece.len()))
+    pieces.iter().map(Piece::len).fold(0, usize::saturating_add)
 }
 
 impl From<u8> for Piece<'_> {

@@ -1,8 +1,6 @@
 -- `put_records`: a record, the end and a fault each lead on as the listing has it.
-use Rattle.std.proofs.Common.{[], ap, arith}
 use Rattle.records.proofs.Contents.{holds}
 use Rattle.records.specs.Reading.{said}
-use Rattle.records.proofs.Seen.{seen_none}
 use Rattle.listings.proofs.Sofar.{closed_at_end, closed_at_fault, not_refused, next}
 use Rattle.listings.proofs.list.put_records.Goals as goal
 

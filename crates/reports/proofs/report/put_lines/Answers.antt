@@ -10,14 +10,14 @@ loop-state-init c = record { same = refl; lines = lines_none (left_of c.args.tab
 pub returns-in_err-put_state : goal.returns-in_err-put_state
 returns-in_err-put_state c =
     let sofar = c.loop-state.invariant in
-    let rank = rank_told (left_of c.args.table.now) c.loop-state.state c.in-Ok.rank (rw sofar.same at (c.in-Ok.ensures.answer (rw sofar.same c.requires.sound))) in
+    let rank = rank_told c.loop-state.state c.in-Ok.rank sofar.same c.requires.sound c.in-Ok.ensures.answer in
     let inside = rw c.requires.verdict.states at c.loop-state-test.true in
     absurd (not_refused sofar.lines c.requires.sound.proper.orderly.few c.requires.room inside (rw rank at c.in_err-put_state.ensures))
 
 pub loop-state-preserved : goal.loop-state-preserved
 loop-state-preserved c =
     let sofar = c.loop-state.invariant in
-    let rank = rank_told (left_of c.args.table.now) c.loop-state.state c.in-Ok.rank (rw sofar.same at (c.in-Ok.ensures.answer (rw sofar.same c.requires.sound))) in
+    let rank = rank_told c.loop-state.state c.in-Ok.rank sofar.same c.requires.sound c.in-Ok.ensures.answer in
     let inside = rw c.requires.verdict.states at c.loop-state-test.true in
     record {
       same = c.rank.ensures.same ∙ sofar.same;

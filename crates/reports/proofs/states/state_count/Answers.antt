@@ -1,7 +1,7 @@
 -- `state_count`: one record more, and the end or a fault.
-use Rattle.std.proofs.Common.{◌≡◌, Ok, None, ap}
+use Rattle.std.proofs.Common.{◌≡◌, Ok, None}
 use Rattle.records.specs.Reading.{said}
-use Rattle.reports.proofs.Largest.{sofar_none, sofar_more, counted_at_end, counted_at_fault}
+use Rattle.reports.proofs.Largest.{sofar_more, counted_at_end, counted_at_fault}
 use Rattle.reports.proofs.states.state_count.Goals as goal
 use Rattle.reports.proofs.states.state_count.Goals.{in_default, in_default-2}
 
