@@ -1,15 +1,16 @@
 // The lines of a listing.
-ghost use Rattle.listings.specs.Listing.{band_line, name_line, line, counts_line};
+ghost use Rattle.listings.specs.Listing.{line, counts_line};
 ghost use Rattle.records.specs.Reading.{said};
-ghost use Rattle.text.specs.Puts.{Put};
+ghost use Rattle.text.specs.Pages.{PutOn};
 
 use records::counts::Counts;
 use records::record::Record;
-use text::piece::{Piece, put_all};
+use text::page::Page;
+use text::piece::Piece;
 use text::room::TooShort;
 
-pub(crate) fn put_record(text: &mut [u8], at: usize, entry: &Record<'_>) -> Result<usize, TooShort>
-    ensures { Put text.old at (line (said entry.now)) text.new result }
+pub(crate) fn put_record(page: &mut Page<'_>, entry: &Record<'_>) -> Result<(), TooShort>
+    ensures { PutOn page.old (line (said entry.now)) page.new result }
 {
     match entry {
         Record::Band {
@@ -17,56 +18,34 @@ pub(crate) fn put_record(text: &mut [u8], at: usize, entry: &Record<'_>) -> Resu
             target,
             low,
             high,
-        } => put_band(text, at, *source, *target, *low, *high),
-        Record::Name { state, name, .. } => put_name(text, at, *state, name),
+        } => page.put_all(&[
+            Piece::Word(b"band "),
+            Piece::from(*source),
+            Piece::Word(b" "),
+            Piece::from(*target),
+            Piece::Word(b" "),
+            Piece::from(*low),
+            Piece::Word(b" "),
+            Piece::from(*high),
+            Piece::Word(b"\n"),
+        ]),
+        Record::Name { state, name, .. } => page.put_all(&[
+            Piece::Word(b"name "),
+            Piece::from(*state),
+            Piece::Word(b" "),
+            Piece::Hex(name),
+            Piece::Word(b"\n"),
+        ]),
     }
 }
 
-fn put_band(
-    text: &mut [u8],
-    at: usize,
-    source: u8,
-    target: u8,
-    low: u32,
-    high: u32,
-) -> Result<usize, TooShort>
-    ensures { Put text.old at (band_line source target low high) text.new result }
+pub(crate) fn put_counts(page: &mut Page<'_>, counts: Counts) -> Result<(), TooShort>
+    ensures { PutOn page.old (counts_line counts) page.new result }
 {
-    let line = [
-        Piece::Word(b"band "),
-        Piece::Decimal(u64::from(source)),
-        Piece::Word(b" "),
-        Piece::Decimal(u64::from(target)),
-        Piece::Word(b" "),
-        Piece::Decimal(u64::from(low)),
-        Piece::Word(b" "),
-        Piece::Decimal(u64::from(high)),
-        Piece::Word(b"\n"),
-    ];
-    put_all(text, at, &line)
-}
-
-fn put_name(text: &mut [u8], at: usize, state: u8, bytes: &[u8]) -> Result<usize, TooShort>
-    ensures { Put text.old at (name_line state bytes.now) text.new result }
-{
-    let line = [
-        Piece::Word(b"name "),
-        Piece::Decimal(u64::from(state)),
-        Piece::Word(b" "),
-        Piece::Hex(bytes),
-        Piece::Word(b"\n"),
-    ];
-    put_all(text, at, &line)
-}
-
-pub(crate) fn put_counts(text: &mut [u8], at: usize, counts: Counts) -> Result<usize, TooShort>
-    ensures { Put text.old at (counts_line counts) text.new result }
-{
-    let line = [
-        Piece::Decimal(counts.bands as u64),
+    page.put_all(&[
+        Piece::from(counts.bands),
         Piece::Word(b" bands, "),
-        Piece::Decimal(counts.names as u64),
+        Piece::from(counts.names),
         Piece::Word(b" names\n"),
-    ];
-    put_all(text, at, &line)
+    ])
 }

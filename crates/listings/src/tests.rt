@@ -85,9 +85,9 @@ fn a_fault_comes_after_a_band_and_a_name(rt: HostRuntime) -> Result<(), Fail> {
 
 /// Makes of every twelve bytes the band with the longest line.
 fn fill_bands(records: &mut [u8]) {
-    for i in 0..records.len() / 12 {
-        records[12 * i] = 0x42;
-        records[12 * i + 3] = 0;
+    for record in records.chunks_exact_mut(12) {
+        record[0] = 0x42;
+        record[3] = 0;
     }
 }
 
@@ -113,12 +113,7 @@ fn one_byte_more_is_refused(rt: HostRuntime) -> Result<(), Fail> {
 
 /// Whether every byte is still `#`.
 fn untouched(bytes: &[u8]) -> bool {
-    for byte in bytes {
-        if *byte != b'#' {
-            return false;
-        }
-    }
-    true
+    bytes.iter().all(|byte| *byte == b'#')
 }
 
 #[test]

@@ -1,5 +1,4 @@
 -- The lemmas of this crate.
 pub mod Largest
-pub mod Reports
 pub mod Runs
 pub mod StateLines

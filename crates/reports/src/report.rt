@@ -1,10 +1,10 @@
 // The report on a record file.
-ghost use Rattle.std.specs.Prelude.{◌≡◌, ℕ, ◌≤◌, true, length};
+ghost use Rattle.std.specs.Prelude.{◌≡◌, ◌+◌, ◌≤◌, length, IsTrue};
 ghost use Rattle.amounts.specs.Shares.{shares};
 ghost use Rattle.reports.specs.Reporting.{Ran, Reported, report_left, report_lines, table_text};
 ghost use Rattle.tables.specs.Calls.{left_of, Lent, Sound, VerdictOn};
 ghost use Rattle.tables.specs.Left.{opened};
-ghost use Rattle.text.specs.Puts.{Put};
+ghost use Rattle.text.specs.Pages.{PutOn};
 
 use crate::lines::{put_removed, put_state};
 use crate::states::state_count;
@@ -14,6 +14,7 @@ use refusals::Refusal;
 use tables::band::Band;
 use tables::table::Table;
 use tables::verdict::Verdict;
+use text::page::Page;
 use text::refused::put_refused;
 use text::room::TooShort;
 
@@ -35,65 +36,67 @@ pub fn report(
     if text.len() < TEXT_BYTES {
         return Err(Refusal::ShortList { need: TEXT_BYTES });
     }
+    let mut page = Page::new(text);
     if records.len() > INPUT_BYTES {
-        return Ok(put_refused(text, 0, Refusal::LongInput, 0)?);
+        put_refused(&mut page, Refusal::LongInput, 0)?;
+    } else {
+        let mut table = Table::open(bands, ranks);
+        put_report(&mut page, &mut table, records)?;
     }
-    let mut table = Table::open(bands, ranks);
-    Ok(put_report(text, &mut table, records)?)
+    Ok(page.at)
 }
 
 fn put_report(
-    text: &mut [u8],
+    page: &mut Page<'_>,
     table: &mut Table<'_, Share>,
     records: &[u8],
-) -> Result<usize, TooShort>
-    requires room { 4096 ≤ length text.old }
+) -> Result<(), TooShort>
+    requires room { page.old.at + 4096 ≤ length page.old.bytes.now }
     requires sound { Sound shares table.old }
     requires opened { left_of table.old ≡ opened (length table.old.bands.now) (length table.old.ranks.now) }
-    ensures writes { Put text.old 0 (table_text table.old records.now) text.new result }
+    ensures writes { PutOn page.old (table_text table.old records.now) page.new result }
     ensures short { length (table_text table.old records.now) ≤ 4096 }
     ensures left { left_of table.new ≡ report_left (length table.old.bands.now) (length table.old.ranks.now) records.now }
     ensures sound { Sound shares table.new }
     ensures lent { Lent table.old table.new }
 {
     match ranked(table, records) {
-        Ok(verdict) => put_lines(text, table, &verdict),
-        Err(stop) => put_refused(text, 0, stop.refusal, stop.index),
+        Ok(verdict) => put_lines(page, table, &verdict),
+        Err(stop) => put_refused(page, stop.refusal, stop.index),
     }
 }
 
 /// Sizes, loads and checks a table that was just opened.
 fn ranked(table: &mut Table<'_, Share>, records: &[u8]) -> Result<Verdict, Stop>
-    ensures ran { (bands ranks : ℕ) → Sound shares table.old → left_of table.old ≡ opened bands ranks → Ran bands ranks records.now table.new result }
+    requires sound { Sound shares table.old }
+    requires opened { left_of table.old ≡ opened (length table.old.bands.now) (length table.old.ranks.now) }
+    ensures ran { Ran (length table.old.bands.now) (length table.old.ranks.now) records.now table.new result }
     ensures lent { Lent table.old table.new }
 {
     table.size(state_count(records), 0)?;
     table.load(records)?;
-    let verdict = table.check()?;
-    Ok(verdict)
+    Ok(table.check()?)
 }
 
 /// Writes the lines of a table whose verdict is in force.
 fn put_lines(
-    text: &mut [u8],
+    page: &mut Page<'_>,
     table: &Table<'_, Share>,
     verdict: &Verdict,
-) -> Result<usize, TooShort>
-    requires room { 4096 ≤ length text.old }
+) -> Result<(), TooShort>
+    requires room { page.old.at + 4096 ≤ length page.old.bytes.now }
     requires sound { Sound shares table.now }
-    requires checked { table.now.checked ≡ true }
+    requires checked { IsTrue table.now.checked }
     requires verdict { VerdictOn shares (left_of table.now) verdict.now }
-    ensures writes { Put text.old 0 (report_lines (left_of table.now)) text.new result }
+    ensures writes { PutOn page.old (report_lines (left_of table.now)) page.new result }
     ensures short { length (report_lines (left_of table.now)) ≤ 4096 }
 {
-    let mut end = 0;
     for state in 0..verdict.states {
-        let rank = match table.rank(state) {
-            Ok(rank) => rank,
-            // A verdict is in force, and the state is one of the table.
-            Err(_) => unreachable(),
+        // A verdict is in force, and the state is one of the table.
+        let Ok(rank) = table.rank(state) else {
+            unreachable()
         };
-        end = put_state(text, end, state, rank)?;
+        put_state(page, state, rank)?;
     }
-    put_removed(text, end, verdict)
+    put_removed(page, verdict)
 }

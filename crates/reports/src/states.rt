@@ -12,16 +12,10 @@ pub(crate) fn state_count(records: &[u8]) -> usize
 {
     let mut reader = Reader::new(records);
     let mut largest = 0;
-    'records: loop {
-        let found = match reader.next() {
-            Ok(found) => found,
-            Err(_) => return usize::from(largest) + 1,
-        };
-        let Some(entry) = found else {
-            return usize::from(largest) + 1;
-        };
+    'records: while let Ok(Some(entry)) = reader.next() {
         largest = larger_state(largest, &entry);
     }
+    usize::from(largest) + 1
 }
 
 fn larger_state(largest: u8, entry: &Record<'_>) -> u8

@@ -1,5 +1,4 @@
 -- The lemmas of this crate: what a put writes, digits, pieces, and how long a text can be.
 pub mod Hexadecimal
 pub mod Pieces
-pub mod Spelling
 pub mod Writes

@@ -1,69 +1,17 @@
--- When a text fits, and what is then written.
-use Rattle.std.proofs.Common.{◌≡◌, ℕ, ◌+◌, ◌-◌, ◌^◌, ◌<◌, ◌≤◌, min, Bool, true, false, cond, leb, List, [], ◌∷◌, ◌++◌, length, take, drop, set, Ok, Err, Result, sym, refl, ap, ◌∙◌, subst, ⊎_elim, add-zero, arith}
-use Rattle.std.proofs.lemmas.List.{append_assoc, drop_at, drop-drop, drop_more, length-append, length_push, length-take-le, set_at, take-append-drop, take_at}
-use Rattle.std.proofs.lemmas.Bool.{cases_lt, le-leb, lt-leb, leb-true, leb-false}
+-- When a text fits on a page, what is then written, and one text after another.
+use Rattle.std.proofs.Common.{◌≡◌, ℕ, ◌+◌, ◌≤◌, List, [], ◌++◌, length, take, drop, Ok, Err, Result, sym, refl, ap, ◌∙◌, add-zero, arith}
+use Rattle.std.proofs.lemmas.List.{append_assoc, drop_at, drop-drop, length-append, length-drop, length-take-le, take-append-drop, take_at}
+use Rattle.std.proofs.lemmas.Bool.Decides.{nat_tests}
+use Rattle.text.specs.declared.page.Page.{Page}
 use Rattle.text.specs.declared.room.TooShort.{TooShort}
-use Rattle.text.specs.Puts.{too_short, end_of, overlaid, Put}
+use Rattle.text.specs.Pages.{PutOn}
+use Rattle.text.specs.Puts.{overlaid}
 
-module _ (len at count : ℕ) where
-  -- what `end_of` tells where it answers, and where it refuses
-  pub ends : (end : ℕ) → Ok end ≡ end_of len at count → (at + count ≤ len) × (end ≡ at + count)
-  ends end = by_test (leb (at + count) len) refl
-    where
-      by_test : (fits : Bool) → leb (at + count) len ≡ fits → Ok end ≡ cond fits (Ok (at + count)) (Err (too_short (at + count))) → (at + count ≤ len) × (end ≡ at + count)
-      by_test true fits e = (leb-true (at + count) len fits, cc)
-      by_test false short e = let z : ◌≡◌ {A = ℕ} 0 1 = cc in absurd (omega arith)
-
-  pub stops : (x : TooShort) → Err x ≡ end_of len at count → (len < at + count) × (x ≡ too_short (at + count))
-  stops x = by_test (leb (at + count) len) refl
-    where
-      by_test : (fits : Bool) → leb (at + count) len ≡ fits → Err x ≡ cond fits (Ok (at + count)) (Err (too_short (at + count))) → (len < at + count) × (x ≡ too_short (at + count))
-      by_test true fits e = let z : ◌≡◌ {A = ℕ} 0 1 = cc in absurd (omega arith)
-      by_test false short e = (leb-false (at + count) len short, cc)
-
--- a count capped at 64 bits ends where the whole does
-pub capped_end : (len at count capped : ℕ) → len < 2 ^ 64 - 1 → capped ≡ min count (2 ^ 64 - 1) → end_of len at capped ≡ end_of len at count
-capped_end len at count capped small cap =
-    ⊎_elim
-    (λ (fits : count < 2 ^ 64). let same : capped ≡ count = omega arith in ap (end_of len at) same)
-    (λ (past : 2 ^ 64 ≤ count).
-    let need : min (at + capped) (2 ^ 64 - 1) ≡ min (at + count) (2 ^ 64 - 1) = omega arith in
-    rw (lt-leb (at + capped) len (omega arith), lt-leb (at + count) len (omega arith), need))
-    (cases_lt count (2 ^ 64))
-
-module _ (old : List ℕ) (at : ℕ) (ys : List ℕ) where
-  pub put : (new : List ℕ) → at + length ys ≤ length old → new ≡ overlaid old at ys → Put old at ys new (Ok (at + length ys))
-  put new fits is = let t = le-leb (at + length ys) (length old) fits in record { answer = rw t; writes = rw t is }
-
-  pub refused : length old < at + length ys → Put old at ys old (Err (too_short (at + length ys)))
-  refused short = let t = lt-leb (at + length ys) (length old) short in record { answer = rw t; writes = rw t }
-
-  -- and back: where it fits, a text is put
-  pub done : {new : List ℕ} {r : Result ℕ TooShort} → Put old at ys new r → at + length ys ≤ length old → (r ≡ Ok (at + length ys)) × (new ≡ overlaid old at ys)
-  done p fits = let t = le-leb (at + length ys) (length old) fits in (rw t at p.answer, rw t at p.writes)
-
-  pub not_refused : (new : List ℕ) (x : TooShort) → Put old at ys new (Err x) → at + length ys ≤ length old → ⊥
-  not_refused new x p fits = omega (arith, (stops (length old) at (length ys) x p.answer).0)
-
-  -- after a write to `text[at..end]`, where k is how long that part is
-  pub overlaid_part : (k : ℕ) → k ≡ length ys → take at old ++ (ys ++ drop k (drop at old)) ≡ overlaid old at ys
-  overlaid_part k e = rw (e, drop-drop)
-
-  -- one byte more at the end
-  pub overlaid_more : (b : ℕ) → at + length ys < length old → set (overlaid old at ys) (at + length ys) b ≡ overlaid old at (ys ++ (b ∷ []))
-  overlaid_more b below =
-      let front : List ℕ = take at old ++ ys in
-      let long : length front ≡ at + length ys = length-append (take at old) ys ∙ ap (λ n. n + length ys) (length-take-le at old (omega arith)) in
-      let next : at + length (ys ++ (b ∷ [])) ≡ at + length ys + 1 = omega (arith, length_push ys b) in
-      let rest = drop_more old (at + length ys) b below in
-      let regrouped : front ++ (b ∷ drop (at + length ys + 1) old) ≡ take at old ++ ((ys ++ (b ∷ [])) ++ drop (at + length ys + 1) old) = simp append_assoc in
-      rw (rest, ← append_assoc (take at old) ys _, set_at front _ _ b _ long, next) regrouped
-
-pub overlaid_none : (old : List ℕ) (at : ℕ) → overlaid old at [] ≡ old
-overlaid_none old at = rw add-zero (take-append-drop at old)
+length-overlaid : (old : List ℕ) (at : ℕ) (ys : List ℕ) → at + length ys ≤ length old → length (overlaid old at ys) ≡ length old
+length-overlaid old at ys fits = simp (length-append, length-drop) (omega (arith, length-take-le at old (omega arith)))
 
 -- one text after another
-pub overlaid-append : (old : List ℕ) (at : ℕ) (xs ys : List ℕ) → at + length xs ≤ length old → overlaid (overlaid old at xs) (at + length xs) ys ≡ overlaid old at (xs ++ ys)
+overlaid-append : (old : List ℕ) (at : ℕ) (xs ys : List ℕ) → at + length xs ≤ length old → overlaid (overlaid old at xs) (at + length xs) ys ≡ overlaid old at (xs ++ ys)
 overlaid-append old at xs ys fits =
     let front : List ℕ = take at old ++ xs in
     let n : ℕ = at + length xs in
@@ -74,37 +22,51 @@ overlaid-append old at xs ys fits =
     let regrouped : front ++ (ys ++ drop (n + length ys) old) ≡ take at old ++ ((xs ++ ys) ++ drop (n + length ys) old) = simp append_assoc in
     rw (whole, take_at front (drop n old) n long, later, end) regrouped
 
--- xs stands from `at` up to `end` in a text that was old
-pub record Laid (old : List ℕ) (at : ℕ) (xs text : List ℕ) (end : ℕ) : Type 0 where
-  pub long : length text ≡ length old
-  pub ends : end ≡ at + length xs
-  pub writes : text ≡ overlaid old at xs
+-- ys stands on a page, and the next text begins behind it
+record Stands (before : Page) (ys : List ℕ) (after : Page) : Type 0 where
+  fits : before.at + length ys ≤ length before.bytes.now
+  ends : after.at ≡ before.at + length ys
+  writes : after.bytes.now ≡ overlaid before.bytes.now before.at ys
+  lent : after.bytes.ghost_name ≡ before.bytes.ghost_name
 
-pub none_laid : (old : List ℕ) (at : ℕ) → Laid old at [] old at
-none_laid old at = record { long = refl; ends = sym (add-zero at); writes = sym (overlaid_none old at) }
+-- what a put that answers says, and back
+stands : {before after : Page} {ys : List ℕ} → PutOn before ys after (Ok tt) → Stands before ys after
+stands p = record {
+  fits = grind (arith, nat_tests, p.put.answer);
+  ends = grind (arith, nat_tests, p.put.answer);
+  writes = grind (arith, nat_tests, p.put.answer, p.put.writes);
+  lent = p.lent;
+}
 
-module _ {old : List ℕ} {at : ℕ} {xs text : List ℕ} {end : ℕ} (laid : Laid old at xs text end) where
-  pub all_laid : at + length xs ≤ length old → Put old at xs text (Ok end)
-  all_laid room = rw laid.ends (put old at xs text room laid.writes)
+put : {before after : Page} {ys : List ℕ} → Stands before ys after → PutOn before ys after (Ok tt)
+put s = record { put = record { answer = grind (arith, nat_tests); writes = grind (arith, nat_tests) }; stays = tt; lent = s.lent }
 
-  -- and ys after it, for which there is room
-  module _ (ys : List ℕ) (room : at + length (xs ++ ys) ≤ length old) where
-    pub next_fits : end + length ys ≤ length text
-    next_fits = omega (arith, length-append xs ys, laid.long, laid.ends)
+-- nothing was put
+pub none_put : (page : Page) → page.at ≤ length page.bytes.now → PutOn page [] page (Ok tt)
+none_put page within = put (record { fits = omega arith; ends = sym (add-zero page.at); writes = sym (rw add-zero (take-append-drop page.at page.bytes.now)); lent = refl })
 
-    both_laid : {new : List ℕ} {r : Result ℕ TooShort} → Put text end ys new r → (r ≡ Ok (at + length (xs ++ ys))) × (new ≡ overlaid old at (xs ++ ys))
-    both_laid p =
-        let one = done text end ys p next_fits in
-        let joined : overlaid text end ys ≡ overlaid old at (xs ++ ys) = rw (laid.writes, laid.ends) (overlaid-append old at xs ys (omega (arith, length-append xs ys))) in
-        let end_is : end + length ys ≡ at + length (xs ++ ys) = omega (arith, length-append xs ys, laid.ends) in
-        (rw end_is at one.0, one.1 ∙ joined)
+module _ {first before : Page} {xs : List ℕ} (so_far : PutOn first xs before (Ok tt)) where
+  -- and ys after it
+  pub then_put : {ys : List ℕ} {after : Page} → PutOn before ys after (Ok tt) → PutOn first (xs ++ ys) after (Ok tt)
+  then_put {ys} {after} p =
+      let one = stands so_far in
+      let next = stands p in
+      let long = ap length one.writes ∙ length-overlaid first.bytes.now first.at xs one.fits in
+      put (record {
+        fits = omega (arith, length-append xs ys, long, one.ends, next.fits);
+        ends = omega (arith, length-append xs ys, one.ends, next.ends);
+        writes = next.writes ∙ rw (one.writes, one.ends) (overlaid-append first.bytes.now first.at xs ys one.fits);
+        lent = next.lent ∙ one.lent;
+      })
 
-    pub next_laid : (new : List ℕ) (next : ℕ) → length new ≡ length text → Put text end ys new (Ok next) → Laid old at (xs ++ ys) new next
-    next_laid new next kept p =
-        let both = both_laid p in
-        record { long = kept ∙ laid.long; ends = cc both.0; writes = both.1 }
+  -- with room for both, ys is not refused
+  module _ (ys : List ℕ) (room : first.at + length (xs ++ ys) ≤ length first.bytes.now) where
+    pub not_refused : {after : Page} {x : TooShort} → PutOn before ys after (Err x) → ⊥
+    not_refused p =
+        let one = stands so_far in
+        let fits : before.at + length ys ≤ length before.bytes.now = omega (arith, length-append xs ys, ap length one.writes ∙ length-overlaid first.bytes.now first.at xs one.fits, one.ends) in
+        grind (arith, nat_tests, p.put.answer)
 
-    pub last_laid : {new : List ℕ} {r : Result ℕ TooShort} → Put text end ys new r → Put old at (xs ++ ys) new r
-    last_laid {new} {r} p =
-        let both = both_laid p in
-        subst (Put old at (xs ++ ys) new) (sym both.0) (put old at (xs ++ ys) new room both.1)
+    pub last_put : {after : Page} (r : Result (Unit {0}) TooShort) → PutOn before ys after r → PutOn first (xs ++ ys) after r
+    last_put (Ok tt) p = then_put p
+    last_put (Err x) p = absurd (not_refused p)

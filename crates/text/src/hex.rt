@@ -1,29 +1,27 @@
-// Bytes as two hexadecimal digits each, in upper case.
-ghost use Rattle.std.specs.Prelude.{◌≡◌, ◌<◌, true};
+// Hexadecimal digits, in upper case.
+ghost use Rattle.std.specs.Prelude.{◌≡◌, ◌<◌, true, [], ◌∷◌, length};
 ghost use Rattle.std.specs.Fmt.{digit_glyph};
-ghost use Rattle.text.specs.Puts.{Put, hexadecimal};
+ghost use Rattle.text.specs.Puts.{hexadecimal};
 
-use crate::room::{TooShort, end_of};
+const DIGITS: [u8; 16] = *b"0123456789ABCDEF";
 
-/// Writes `bytes` from `at` on and answers where they end.
-pub fn put_hex(text: &mut [u8], at: usize, bytes: &[u8]) -> Result<usize, TooShort>
-    ensures { Put text.old at (hexadecimal bytes.now) text.new result }
+/// The two digits of a byte.
+pub(crate) fn digits(byte: u8) -> [u8; 2]
+    ensures { result ≡ hexadecimal (byte ∷ []) }
 {
-    let end = end_of(text.len(), at, 2 * bytes.len())?;
-    for (i, byte) in bytes.iter().enumerate() {
-        text[at + 2 * i] = digit(byte / 16);
-        text[at + 2 * i + 1] = digit(byte % 16);
-    }
-    Ok(end)
+    [digit(byte / 16), digit(byte % 16)]
+}
+
+/// How many digits the bytes have.
+pub(crate) fn hex_len(bytes: &[u8]) -> usize
+    ensures { result ≡ length (hexadecimal bytes.now) }
+{
+    2 * bytes.len()
 }
 
 fn digit(value: u8) -> u8
     requires { value < 16 }
     ensures { result ≡ digit_glyph true value }
 {
-    if value < 10 {
-        b'0' + value
-    } else {
-        b'A' + (value - 10)
-    }
+    DIGITS[usize::from(value)]
 }

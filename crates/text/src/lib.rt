@@ -1,11 +1,10 @@
 // Text: words, decimal numbers and hexadecimal bytes, written into the caller's bytes.
 #![tactic(auto)]
 
-pub mod decimal;
-pub mod hex;
+mod hex;
+pub mod page;
 pub mod piece;
 pub mod refused;
 pub mod room;
 #[cfg(test)]
 mod tests;
-pub mod word;

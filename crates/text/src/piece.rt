@@ -1,12 +1,10 @@
-// Pieces of text, put one after another: all of them or none.
-ghost use Rattle.std.specs.Prelude.{◌≡◌, ◌+◌, ◌-◌, ◌^◌, ◌<◌, ◌≤◌, min, length};
+// Pieces of text, of which lines are made.
+ghost use Rattle.std.specs.Prelude.{◌≡◌, ◌-◌, ◌^◌, min, length};
 ghost use Rattle.text.specs.Pieces.{bytes_of, printed};
-ghost use Rattle.text.specs.Puts.{Put, end_of};
+ghost use Rattle.text.specs.declared.piece.Piece.TheVariants.{Decimal};
 
-use crate::decimal::{decimal_len, put_decimal};
-use crate::hex::put_hex;
-use crate::room::{TooShort, end_of};
-use crate::word::put_word;
+use crate::hex::hex_len;
+use itoa::Buffer;
 
 /// A piece of text: bytes as they stand, a number in decimal, or bytes in hexadecimal.
 #[derive(Clone, Copy)]
@@ -16,61 +14,53 @@ pub enum Piece<'a> {
     Hex(&'a [u8]),
 }
 
-/// Writes the pieces from `at` on and answers where the last ends.
-pub fn put_all(text: &mut [u8], at: usize, pieces: &[Piece<'_>]) -> Result<usize, TooShort>
-    ensures { Put text.old at (printed pieces.now) text.new result }
-{
-    // All the room is looked for first, so that a refusal leaves the text as it was.
-    end_of_all(text.len(), at, pieces)?;
-    put_each(text, at, pieces)
-}
-
-fn put_each(text: &mut [u8], at: usize, pieces: &[Piece<'_>]) -> Result<usize, TooShort>
-    requires { at + length (printed pieces.now) ≤ length text.old }
-    ensures { Put text.old at (printed pieces.now) text.new result }
-{
-    let mut end = at;
-    for piece in pieces {
-        end = put_piece(text, end, piece)?;
+impl Piece<'_> {
+    pub(crate) fn len(&self) -> usize
+        ensures { result ≡ length (bytes_of self.now) }
+    {
+        match self {
+            Piece::Word(word) => word.len(),
+            Piece::Decimal(number) => Buffer::new().format(*number).len(),
+            Piece::Hex(bytes) => hex_len(bytes),
+        }
     }
-    Ok(end)
-}
-
-fn put_piece(text: &mut [u8], at: usize, piece: &Piece<'_>) -> Result<usize, TooShort>
-    ensures { Put text.old at (bytes_of piece.now) text.new result }
-{
-    match piece {
-        Piece::Word(word) => put_word(text, at, word),
-        Piece::Decimal(number) => put_decimal(text, at, *number),
-        Piece::Hex(bytes) => put_hex(text, at, bytes),
-    }
-}
-
-/// Where the pieces end, in `len` bytes.
-fn end_of_all(len: usize, at: usize, pieces: &[Piece<'_>]) -> Result<usize, TooShort>
-    requires { len < 2 ^ 64 - 1 }
-    ensures { result ≡ end_of len at (length (printed pieces.now)) }
-{
-    end_of(len, at, pieces_len(pieces))
 }
 
 /// How many bytes the pieces have together, or the largest `usize` where that is more.
-fn pieces_len(pieces: &[Piece<'_>]) -> usize
+pub(crate) fn pieces_len(pieces: &[Piece<'_>]) -> usize
     ensures { result ≡ min (length (printed pieces.now)) (2 ^ 64 - 1) }
 {
-    let mut count: usize = 0;
-    for piece in pieces {
-        count = count.saturating_add(piece_len(piece));
-    }
-    count
+    pieces.iter().map(Piece::len).fold(0, usize::saturating_add)
 }
 
-fn piece_len(piece: &Piece<'_>) -> usize
-    ensures { result ≡ length (bytes_of piece.now) }
-{
-    match piece {
-        Piece::Word(word) => word.len(),
-        Piece::Decimal(number) => decimal_len(*number),
-        Piece::Hex(bytes) => 2 * bytes.len(),
+impl From<u8> for Piece<'_> {
+    ghost from_gives = { λ number r. r ≡ Decimal number };
+
+    fn from(number: u8) -> Self {
+        Piece::Decimal(u64::from(number))
+    }
+}
+
+impl From<u16> for Piece<'_> {
+    ghost from_gives = { λ number r. r ≡ Decimal number };
+
+    fn from(number: u16) -> Self {
+        Piece::Decimal(u64::from(number))
+    }
+}
+
+impl From<u32> for Piece<'_> {
+    ghost from_gives = { λ number r. r ≡ Decimal number };
+
+    fn from(number: u32) -> Self {
+        Piece::Decimal(u64::from(number))
+    }
+}
+
+impl From<usize> for Piece<'_> {
+    ghost from_gives = { λ number r. r ≡ Decimal number };
+
+    fn from(number: usize) -> Self {
+        Piece::Decimal(number as u64)
     }
 }

@@ -4,7 +4,7 @@ use Rattle.listings.proofs.Sofar.{Sofar}
 use Rattle.listings.proofs.list.put_records.Given as goal
 
 abbrev pub invariant-records : goal.invariant-records
-invariant-records l = Sofar l.records l.initial.text l.reader l.text l.end l.counts
+invariant-records l = Sofar l.records l.initial.page l.reader l.page l.counts
 
 abbrev pub decreases-records : goal.decreases-records
 decreases-records l = length l.records - l.reader.cursor

@@ -1,6 +1,0 @@
--- `read_all`: what is read lies within the bytes.
-use Rattle.std.proofs.Common.{◌≤◌, length}
-use Rattle.inspect.proofs.read_all.Given as goal
-
-abbrev pub invariant-loop : goal.invariant-loop
-invariant-loop l = l.count ≤ length l.initial.bytes
