@@ -13,9 +13,7 @@ fn main(rt: HostRuntime) -> io::Result<()> {
     let mut records = [0u8; BUFFER_BYTES];
     let mut text = [0u8; TEXT_BYTES];
     let count = read_all(&mut rt.stdin(), &mut records)?;
-    match list(&records[0..count], &mut text) {
-        Ok(end) => rt.stdout().write_all(&text[0..end]),
-        // The text has room for every listing.
-        Err(_) => unreachable(),
-    }
+    // The text has room for every listing.
+    let end = list(&records[0..count], &mut text).unwrap();
+    rt.stdout().write_all(&text[0..end])
 }

@@ -1,5 +1,5 @@
 -- The text that tells what a record file holds.
-use Rattle.std.specs.Prelude.{◌≡◌, ℕ, ◌≤◌, cond, List, ◌++◌, length, drop, Some, None, Ok, Err, codes, decimal, Option, Result, nat_le, nat_lt}
+use Rattle.std.specs.Prelude.{◌≡◌, ℕ, ◌≤◌, List, ◌++◌, length, drop, Some, None, Ok, Err, codes, decimal, Option, Result, nat_le, nat_lt, if◌then◌else◌}
 use Rattle.std.specs.List.{flat_map}
 use Rattle.refusals.specs.declared.Refusal.{Refusal}
 use Rattle.refusals.specs.declared.Refusal.TheVariants.{LongInput, ShortList}
@@ -36,12 +36,12 @@ lines_of held = flat_map line held.entries ++ closing held.entries held.ending
 
 -- what is printed of an input: at most 61,440 bytes are looked at
 abbrev pub listing : List ℕ → List ℕ
-listing bytes = cond (nat_lt 61_440 (length bytes)) (refused_line LongInput 0) (lines_of (contents bytes))
+listing bytes = if nat_lt 61_440 (length bytes) then refused_line LongInput 0 else lines_of (contents bytes)
 
 -- a text under 180,000 bytes, which every listing fits, is refused and left as it was; later bytes are never touched.
 -- What is listed is what the input holds.
 pub record Listed (bytes old new : List ℕ) (r : Result ℕ Refusal) : Type 0 where
-  pub answer : r ≡ cond (nat_le 180_000 (length old)) (Ok (length (listing bytes))) (Err (ShortList 180_000))
-  pub writes : new ≡ cond (nat_le 180_000 (length old)) (listing bytes ++ drop (length (listing bytes)) old) old
+  pub answer : r ≡ if nat_le 180_000 (length old) then Ok (length (listing bytes)) else Err (ShortList 180_000)
+  pub writes : new ≡ if nat_le 180_000 (length old) then listing bytes ++ drop (length (listing bytes)) old else old
   pub fits : 180_000 ≤ length old → length (listing bytes) ≤ 180_000
   pub holds : 180_000 ≤ length old → length bytes ≤ 61_440 → Holds bytes (contents bytes)

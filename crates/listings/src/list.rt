@@ -6,14 +6,12 @@ ghost use Rattle.text.specs.Pages.{PutOn};
 
 use crate::lines::{put_counts, put_record};
 use records::counts::Counts;
+pub use records::limits::INPUT_BYTES;
 use records::reader::Reader;
 use refusals::Refusal;
 use text::page::Page;
 use text::refused::put_refused;
 use text::room::TooShort;
-
-/// More record bytes than these are refused.
-pub const INPUT_BYTES: usize = 61_440;
 
 /// Room for the listing of every input.
 pub const TEXT_BYTES: usize = 180_000;

@@ -4,6 +4,7 @@
 pub mod counts;
 pub mod fault;
 mod format;
+pub mod limits;
 pub mod reader;
 pub mod record;
 #[cfg(test)]

@@ -26,9 +26,7 @@ fn main(rt: HostRuntime) -> io::Result<()> {
     let mut ranks = [0u16; STATES];
     let mut text = [0u8; TEXT_BYTES];
     let count = read_all(&mut rt.stdin(), &mut records)?;
-    match report(&records[0..count], &mut bands, &mut ranks, &mut text) {
-        Ok(end) => rt.stdout().write_all(&text[0..end]),
-        // The text has room for every report.
-        Err(_) => unreachable(),
-    }
+    // The text has room for every report.
+    let end = report(&records[0..count], &mut bands, &mut ranks, &mut text).unwrap();
+    rt.stdout().write_all(&text[0..end])
 }

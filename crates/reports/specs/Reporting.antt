@@ -1,5 +1,5 @@
 -- The report on a record file: which states fall, in which round.
-use Rattle.std.specs.Prelude.{◌≡◌, ℕ, zero, suc, ◌+◌, ◌<◌, ◌≤◌, max, true, cond, List, [], ◌∷◌, ◌++◌, length, take, drop, Some, None, Ok, Err, codes, decimal, Option, Result, nat_le, nat_lt}
+use Rattle.std.specs.Prelude.{IsTrue, ◌≡◌, ℕ, zero, suc, ◌+◌, ◌<◌, ◌≤◌, max, List, [], ◌∷◌, ◌++◌, length, take, drop, Some, None, Ok, Err, codes, decimal, Option, Result, nat_le, nat_lt, if◌then◌else◌}
 use Rattle.std.specs.Option.{option_or}
 use Rattle.amounts.specs.Shares.{shares, share_of}
 use Rattle.amounts.specs.declared.shares.Share.{Share}
@@ -86,7 +86,7 @@ text_of (Some stop) l = refused_line stop.refusal stop.index
 
 -- the text for these bytes, over so many band places and rank places
 abbrev pub report_text : ℕ → ℕ → List ℕ → List ℕ
-report_text bands ranks bytes = cond (nat_lt 61_440 (length bytes)) (refused_line LongInput 0) (text_of (report_stop bands ranks bytes) (report_left bands ranks bytes))
+report_text bands ranks bytes = if nat_lt 61_440 (length bytes) then refused_line LongInput 0 else text_of (report_stop bands ranks bytes) (report_left bands ranks bytes)
 
 -- the text for a table that was just opened
 abbrev pub table_text : Table Share → List ℕ → List ℕ
@@ -101,12 +101,12 @@ pub record Memory : Type 0 where
 -- the places hold what the calls leave: the held bands first, and, once checked, the ranks
 pub record HoldsLeft (memory : Memory) (l : Left Share) : Type 0 where
   pub held : take (length l.held) memory.bands ≡ l.held
-  pub ranks : l.verdict ≡ true → (t : ℕ) → t < l.states → rank_in memory.ranks t ≡ rank_left shares l t
+  pub ranks : IsTrue l.verdict → (t : ℕ) → t < l.states → rank_in memory.ranks t ≡ rank_left shares l t
 
 -- a text under 4,096 bytes, which every report fits, is refused and left as it was, and so are the places; later bytes are never touched
 pub record Reported (bytes old new : List ℕ) (before after : Memory) (r : Result ℕ Refusal) : Type 0 where
-  pub answer : r ≡ cond (nat_le 4_096 (length old)) (Ok (length (report_text (length before.bands) (length before.ranks) bytes))) (Err (ShortList 4_096))
-  pub writes : new ≡ cond (nat_le 4_096 (length old)) (report_text (length before.bands) (length before.ranks) bytes ++ drop (length (report_text (length before.bands) (length before.ranks) bytes)) old) old
+  pub answer : r ≡ if nat_le 4_096 (length old) then Ok (length (report_text (length before.bands) (length before.ranks) bytes)) else Err (ShortList 4_096)
+  pub writes : new ≡ if nat_le 4_096 (length old) then report_text (length before.bands) (length before.ranks) bytes ++ drop (length (report_text (length before.bands) (length before.ranks) bytes)) old else old
   pub fits : 4_096 ≤ length old → length (report_text (length before.bands) (length before.ranks) bytes) ≤ 4_096
   pub memory : 4_096 ≤ length old → length bytes ≤ 61_440 → HoldsLeft after (report_left (length before.bands) (length before.ranks) bytes)
   pub refused : length old < 4_096 → after ≡ before

@@ -10,6 +10,7 @@ use crate::lines::{put_removed, put_state};
 use crate::states::state_count;
 use crate::stop::Stop;
 use amounts::shares::Share;
+pub use records::limits::INPUT_BYTES;
 use refusals::Refusal;
 use tables::band::Band;
 use tables::table::Table;
@@ -17,9 +18,6 @@ use tables::verdict::Verdict;
 use text::page::Page;
 use text::refused::put_refused;
 use text::room::TooShort;
-
-/// More record bytes than these are refused.
-pub const INPUT_BYTES: usize = 61_440;
 
 /// Room for every report.
 pub const TEXT_BYTES: usize = 4_096;
@@ -93,9 +91,7 @@ fn put_lines(
 {
     for state in 0..verdict.states {
         // A verdict is in force, and the state is one of the table.
-        let Ok(rank) = table.rank(state) else {
-            unreachable()
-        };
+        let rank = table.rank(state).unwrap();
         put_state(page, state, rank)?;
     }
     put_removed(page, verdict)

@@ -1,5 +1,4 @@
 -- `put_lines`: the lines of the states so far are put.
-use Rattle.std.proofs.Common.{◌≡◌}
 use Rattle.tables.specs.Calls.{left_of}
 use Rattle.reports.proofs.StateLines.{Lines}
 use Rattle.reports.proofs.report.put_lines.Given as goal
