@@ -20,6 +20,7 @@ pub const TEXT_BYTES: usize = 180_000;
 pub fn list(records: &[u8], text: &mut [u8]) -> Result<usize, Refusal>
     ensures { Listed records.now text.old text.new result }
 {
+    // A report begins alike. These two tests are plainer than a call that lends the text and may refuse.
     if text.len() < TEXT_BYTES {
         return Err(Refusal::ShortList { need: TEXT_BYTES });
     }

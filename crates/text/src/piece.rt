@@ -33,6 +33,7 @@ pub(crate) fn pieces_len(pieces: &[Piece<'_>]) -> usize
     pieces.iter().map(Piece::len).fold(0, usize::saturating_add)
 }
 
+// One impl for each width: `Into<u64>` leaves out `usize`, and no macro may write an impl.
 impl From<u8> for Piece<'_> {
     ghost from_gives = { λ number r. r ≡ Decimal number };
 
