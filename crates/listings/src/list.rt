@@ -11,7 +11,7 @@ use records::reader::Reader;
 use refusals::Refusal;
 use text::page::Page;
 use text::refused::put_refused;
-use text::room::TooShort;
+use text::room::{TooShort, check_room};
 
 /// Room for the listing of every input.
 pub const TEXT_BYTES: usize = 180_000;
@@ -20,10 +20,7 @@ pub const TEXT_BYTES: usize = 180_000;
 pub fn list(records: &[u8], text: &mut [u8]) -> Result<usize, Refusal>
     ensures { Listed records.now text.old text.new result }
 {
-    // A report begins alike. These two tests are plainer than a call that lends the text and may refuse.
-    if text.len() < TEXT_BYTES {
-        return Err(Refusal::ShortList { need: TEXT_BYTES });
-    }
+    check_room(text, TEXT_BYTES)?;
     let mut page = Page::new(text);
     if records.len() > INPUT_BYTES {
         put_refused(&mut page, Refusal::LongInput, 0)?;

@@ -17,7 +17,7 @@ use tables::table::Table;
 use tables::verdict::Verdict;
 use text::page::Page;
 use text::refused::put_refused;
-use text::room::TooShort;
+use text::room::{TooShort, check_room};
 
 /// Room for every report.
 pub const TEXT_BYTES: usize = 4_096;
@@ -31,9 +31,7 @@ pub fn report(
 ) -> Result<usize, Refusal>
     ensures { Reported records.now text.old text.new (record { bands = bands.entry.now; ranks = ranks.old }) (record { bands = bands.exit.now; ranks = ranks.new }) result }
 {
-    if text.len() < TEXT_BYTES {
-        return Err(Refusal::ShortList { need: TEXT_BYTES });
-    }
+    check_room(text, TEXT_BYTES)?;
     let mut page = Page::new(text);
     if records.len() > INPUT_BYTES {
         put_refused(&mut page, Refusal::LongInput, 0)?;

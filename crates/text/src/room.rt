@@ -1,5 +1,5 @@
 // What is needed where a text does not fit.
-ghost use Rattle.std.specs.Prelude.{◌≡◌};
+ghost use Rattle.std.specs.Prelude.{◌≡◌, length, Ok, Err, nat_le, if◌then◌else◌};
 ghost use Rattle.refusals.specs.declared.Refusal.TheVariants.{ShortList};
 
 use refusals::Refusal;
@@ -15,5 +15,16 @@ impl From<TooShort> for Refusal {
 
     fn from(short: TooShort) -> Refusal {
         Refusal::ShortList { need: short.need }
+    }
+}
+
+/// Refuses a text that has fewer bytes than are asked for.
+pub fn check_room(text: &[u8], need: usize) -> Result<(), Refusal>
+    ensures { result ≡ if nat_le need (length text.now) then Ok tt else Err (ShortList need) }
+{
+    if text.len() < need {
+        Err(Refusal::ShortList { need })
+    } else {
+        Ok(())
     }
 }
