@@ -1,4 +1,6 @@
 // Both kinds at the edges of their numbers, against results worked out by hand.
+ghost use Rattle.std.specs.Prelude.{◌<◌};
+
 use crate::amount::Amount;
 use crate::bounds::Bounds;
 use crate::grades::Grade;
@@ -68,13 +70,13 @@ const GRADE_OUTS: [[u32; 7]; 5] = [
 ];
 
 /// A kind whose amounts the tests make of any number, and read as one.
-trait Numbered: RecordNumber {
+trait TestKind: RecordNumber {
     fn of(number: u32) -> Self;
 
     fn number(self) -> u32;
 }
 
-impl Numbered for Share {
+impl TestKind for Share {
     fn of(number: u32) -> Share {
         Share { number }
     }
@@ -84,7 +86,7 @@ impl Numbered for Share {
     }
 }
 
-impl Numbered for Grade {
+impl TestKind for Grade {
     fn of(number: u32) -> Grade {
         Grade { number }
     }
@@ -94,29 +96,39 @@ impl Numbered for Grade {
     }
 }
 
-fn has_constants<K: Numbered>(rt: &impl Abort, full: u32) {
+fn has_constants<K: TestKind>(rt: &impl Abort, full: u32) {
     assert_eq!(rt; K::nothing().number(), 0);
     assert_eq!(rt; K::full().number(), full);
     assert_eq!(rt; K::grain().number(), 1);
 }
 
-fn is_ordered<K: Numbered>(rt: &impl Abort, edges: &[u32; 6], at_most: &[[bool; 6]; 6]) {
+fn is_ordered<K: TestKind>(rt: &impl Abort, edges: &[u32; 6], at_most: &[[bool; 6]; 6]) {
     for (x, row) in edges.iter().zip(at_most) {
-        for (y, expected) in edges.iter().zip(row) {
-            assert_eq!(rt; K::of(*x).at_most(K::of(*y)), *expected);
-        }
+        is_at_most::<K>(rt, *x, edges, row);
     }
 }
 
-fn larger_is_later<K: Numbered>(rt: &impl Abort, edges: &[u32; 6]) {
+fn is_at_most<K: TestKind>(rt: &impl Abort, x: u32, edges: &[u32; 6], at_most: &[bool; 6]) {
+    for (y, expected) in edges.iter().zip(at_most) {
+        assert_eq!(rt; K::of(x).at_most(K::of(*y)), *expected);
+    }
+}
+
+fn larger_is_later<K: TestKind>(rt: &impl Abort, edges: &[u32; 6]) {
     for (i, x) in edges.iter().enumerate() {
-        for (j, y) in edges.iter().enumerate() {
-            assert_eq!(rt; K::of(*x).larger(K::of(*y)).number(), edges[i.max(j)]);
-        }
+        larger_with::<K>(rt, i, *x, edges);
     }
 }
 
-fn is_shared_out<K: Numbered>(rt: &impl Abort, rows: &[[u32; 7]]) {
+fn larger_with<K: TestKind>(rt: &impl Abort, i: usize, x: u32, edges: &[u32; 6])
+    requires { i < 6 }
+{
+    for (j, y) in edges.iter().enumerate() {
+        assert_eq!(rt; K::of(x).larger(K::of(*y)).number(), edges[i.max(j)]);
+    }
+}
+
+fn is_shared_out<K: TestKind>(rt: &impl Abort, rows: &[[u32; 7]]) {
     for &[
         whole,
         own_low,
@@ -140,7 +152,7 @@ fn is_shared_out<K: Numbered>(rt: &impl Abort, rows: &[[u32; 7]]) {
     }
 }
 
-fn numbers_end_at_full<K: Numbered>(rt: &impl Abort, edges: &[u32; 6]) {
+fn numbers_end_at_full<K: TestKind>(rt: &impl Abort, edges: &[u32; 6]) {
     for (i, edge) in edges.iter().enumerate() {
         let number = K::from_number(*edge).map(|x| x.number());
         // Full is the fourth edge of both kinds: up to it a number stands for itself, past it for no amount.
@@ -153,12 +165,16 @@ fn shares_have_their_constants(rt: HostRuntime) {
     has_constants::<Share>(&rt, 1_048_576);
 }
 
+fn adds_up(rt: &impl Abort, x: u32, totals: &[u32; 6]) {
+    for (y, total) in SHARES.iter().zip(totals) {
+        assert_eq!(rt; Share::of(x).total(Share::of(*y)).number, *total);
+    }
+}
+
 #[test]
 fn shares_add_up_to_over(rt: HostRuntime) {
-    for (x, row) in SHARES.iter().zip(&SHARE_TOTALS) {
-        for (y, total) in SHARES.iter().zip(row) {
-            assert_eq!(rt; Share::of(*x).total(Share::of(*y)).number, *total);
-        }
+    for (x, totals) in SHARES.iter().zip(&SHARE_TOTALS) {
+        adds_up(&rt, *x, totals);
     }
     let over = Share::of(600_000).total(Share::of(600_000));
     assert!(rt; !over.at_most(Share::full()));
@@ -189,13 +205,19 @@ fn grades_have_their_constants(rt: HostRuntime) {
     has_constants::<Grade>(&rt, 1_000);
 }
 
+fn total_with(rt: &impl Abort, i: usize, x: u32)
+    requires { i < 6 }
+{
+    for (j, y) in GRADES.iter().enumerate() {
+        assert_eq!(rt; Grade::of(x).total(Grade::of(*y)).number, GRADES[i.max(j)]);
+    }
+}
+
 #[test]
 fn the_total_and_the_larger_grade_are_the_later_edge(rt: HostRuntime) {
     larger_is_later::<Grade>(&rt, &GRADES);
     for (i, x) in GRADES.iter().enumerate() {
-        for (j, y) in GRADES.iter().enumerate() {
-            assert_eq!(rt; Grade::of(*x).total(Grade::of(*y)).number, GRADES[i.max(j)]);
-        }
+        total_with(&rt, i, *x);
     }
     assert_eq!(rt; Grade::of(1_000).total(Grade::of(1_000)).number, 1_000);
 }

@@ -12,6 +12,7 @@ use std::io::{ErrorKind, Read};
 mod tests;
 
 /// Reads until the input ends or the bytes are full, and answers how many were read. A read that is interrupted is made again.
+/// Where the largest 64-bit number of reads did not come to an end, the error is `TimedOut`.
 /// Nothing is said of the bytes past these, nor of any after an error: a reader may write there.
 pub fn read_all<R: Read>(input: &mut R, bytes: &mut [u8]) -> io::Result<usize>
     ensures within { IfOk result (λ n. n ≤ length bytes.old) }
@@ -20,7 +21,7 @@ pub fn read_all<R: Read>(input: &mut R, bytes: &mut [u8]) -> io::Result<usize>
     ensures retried { IfErr result (λ fault. error_kind fault ≢ ErrorKind.Interrupted) }
 {
     let mut count = 0;
-    // Nothing says that an input ends, so the reads are counted.
+    // Nothing says that an input ends, so the reads are counted. No call of the library reads to the end without a heap.
     for _ in 0..u64::MAX {
         match input.read(&mut bytes[count..]) {
             Ok(0) => return Ok(count),

@@ -2,14 +2,12 @@
 #![tactic(auto)]
 
 use input::read_all;
-use listings::list::{INPUT_BYTES, TEXT_BYTES, list};
+use listings::list::{BUFFER_BYTES, TEXT_BYTES, list};
 use std::io;
 use std::io::Write;
 
-/// One byte more than is accepted, so that a longer input shows.
-const BUFFER_BYTES: usize = INPUT_BYTES + 1;
-
 fn main(rt: HostRuntime) -> io::Result<()> {
+    // With no heap, a count says how much of the bytes was read.
     let mut records = [0u8; BUFFER_BYTES];
     let mut text = [0u8; TEXT_BYTES];
     let count = read_all(&mut rt.stdin(), &mut records)?;

@@ -2,11 +2,11 @@
 ghost use Rattle.std.specs.Prelude.{◌+◌, ◌≤◌, length};
 ghost use Rattle.listings.specs.Listing.{lines_of, Listed};
 ghost use Rattle.records.specs.Contents.{Holds, contents};
-ghost use Rattle.text.specs.Pages.{PutOn};
+ghost use Rattle.text.specs.Pages.{HasRoom, PutOn};
 
 use crate::lines::{put_counts, put_record};
 use records::counts::Counts;
-pub use records::limits::INPUT_BYTES;
+pub use records::limits::{BUFFER_BYTES, INPUT_BYTES};
 use records::reader::Reader;
 use refusals::Refusal;
 use text::page::Page;
@@ -31,7 +31,7 @@ pub fn list(records: &[u8], text: &mut [u8]) -> Result<usize, Refusal>
 }
 
 fn put_records(page: &mut Page<'_>, records: &[u8]) -> Result<(), TooShort>
-    requires room { page.old.at + 180000 ≤ length page.old.bytes.now }
+    requires room { HasRoom page.old 180000 }
     requires few { length records.now ≤ 61440 }
     ensures writes { PutOn page.old (lines_of (contents records.now)) page.new result }
     ensures short { length (lines_of (contents records.now)) ≤ 180000 }

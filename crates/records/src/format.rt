@@ -29,6 +29,7 @@ pub(crate) fn record_at(bytes: &[u8], at: usize) -> Result<Option<Record<'_>>, R
 }
 
 /// The record in twelve bytes that begin at `at` in the input.
+// A slice, here and below: `first_chunk` does not say where its array lies, and a name must be a part of the input.
 fn whole_record(bytes: &[u8], at: usize) -> Result<Record<'_>, RecordFault>
     requires whole { length bytes.now ≡ 12 }
     requires within { at + 12 < 2 ^ 64 }

@@ -3,15 +3,12 @@
 
 use amounts::shares::Share;
 use input::read_all;
-use reports::report::{INPUT_BYTES, TEXT_BYTES, report};
+use reports::report::{BUFFER_BYTES, TEXT_BYTES, report};
 use std::io;
 use std::io::Write;
 use tables::band::Band;
 use tables::places::BAND_PLACES;
 use tables::table::STATES;
-
-/// One byte more than is accepted, so that a longer input shows.
-const BUFFER_BYTES: usize = INPUT_BYTES + 1;
 
 const NO_BAND: Band<Share> = Band {
     source: 0,
@@ -21,6 +18,7 @@ const NO_BAND: Band<Share> = Band {
 };
 
 fn main(rt: HostRuntime) -> io::Result<()> {
+    // With no heap, a count says how much of the bytes was read.
     let mut records = [0u8; BUFFER_BYTES];
     let mut bands = [NO_BAND; BAND_PLACES];
     let mut ranks = [0u16; STATES];

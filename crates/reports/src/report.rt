@@ -4,13 +4,13 @@ ghost use Rattle.amounts.specs.Shares.{shares};
 ghost use Rattle.reports.specs.Reporting.{Ran, Reported, report_left, report_lines, table_text};
 ghost use Rattle.tables.specs.Calls.{left_of, Lent, Sound, VerdictOn};
 ghost use Rattle.tables.specs.Left.{opened};
-ghost use Rattle.text.specs.Pages.{PutOn};
+ghost use Rattle.text.specs.Pages.{HasRoom, PutOn};
 
 use crate::lines::{put_removed, put_state};
 use crate::states::state_count;
 use crate::stop::Stop;
 use amounts::shares::Share;
-pub use records::limits::INPUT_BYTES;
+pub use records::limits::{BUFFER_BYTES, INPUT_BYTES};
 use refusals::Refusal;
 use tables::band::Band;
 use tables::table::Table;
@@ -47,7 +47,7 @@ fn put_report(
     table: &mut Table<'_, Share>,
     records: &[u8],
 ) -> Result<(), TooShort>
-    requires room { page.old.at + 4096 ≤ length page.old.bytes.now }
+    requires room { HasRoom page.old 4096 }
     requires sound { Sound shares table.old }
     requires opened { left_of table.old ≡ opened (length table.old.bands.now) (length table.old.ranks.now) }
     ensures writes { PutOn page.old (table_text table.old records.now) page.new result }
@@ -80,7 +80,7 @@ fn put_lines(
     table: &Table<'_, Share>,
     verdict: &Verdict,
 ) -> Result<(), TooShort>
-    requires room { page.old.at + 4096 ≤ length page.old.bytes.now }
+    requires room { HasRoom page.old 4096 }
     requires sound { Sound shares table.now }
     requires checked { IsTrue table.now.checked }
     requires verdict { VerdictOn shares (left_of table.now) verdict.now }

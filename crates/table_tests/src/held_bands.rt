@@ -18,10 +18,10 @@ fn a_band_takes_the_place_of_that_of_its_pair(rt: HostRuntime) -> Result<(), Fai
     make_falling(&rt, &mut table)?;
     set(&mut table, (0, 1, 262_144, FULL))?;
     check_finds(&rt, &mut table, (3, 1, 1, None))?;
-    fates_are(&rt, &mut table, &[None, None, SHORT])?;
+    fates_are(&rt, &table, &[None, None, SHORT])?;
     set(&mut table, (0, 1, 262_144, 524_288))?;
     check_finds(&rt, &mut table, (3, 2, 2, Some(2)))?;
-    fates_are(&rt, &mut table, &FALLING_FATES)
+    fates_are(&rt, &table, &FALLING_FATES)
 }
 
 #[test]
@@ -37,7 +37,7 @@ fn each_band_can_be_removed_and_set_again(rt: HostRuntime) -> Result<(), Fail> {
         set(&mut table, (2, 0, 0, 0))?;
         set(&mut table, given)?;
         check_finds(&rt, &mut table, (3, 2, 2, Some(2)))?;
-        fates_are(&rt, &mut table, &FALLING_FATES)?;
+        fates_are(&rt, &table, &FALLING_FATES)?;
     }
     Ok(())
 }
@@ -50,7 +50,7 @@ fn without(rt: &impl Abort, given: Given, found: Found, fates: &[Fate; 3]) -> Re
     make_falling(rt, &mut table)?;
     set(&mut table, (given.0, given.1, 0, 0))?;
     check_finds(rt, &mut table, found)?;
-    fates_are(rt, &mut table, fates)
+    fates_are(rt, &table, fates)
 }
 
 #[test]
@@ -108,7 +108,7 @@ fn bands_may_come_in_any_order(rt: HostRuntime) -> Result<(), Fail> {
         table.size(3, 0)?;
         set_in_order(&mut table, &order)?;
         check_finds(&rt, &mut table, (3, 2, 2, Some(2)))?;
-        fates_are(&rt, &mut table, &FALLING_FATES)?;
+        fates_are(&rt, &table, &FALLING_FATES)?;
     }
     Ok(())
 }
@@ -131,7 +131,7 @@ fn bands_may_go_in_any_order(rt: HostRuntime) -> Result<(), Fail> {
         set_all(&mut table, &FALLING)?;
         remove_in_order(&mut table, &order)?;
         check_finds(&rt, &mut table, (3, 3, 1, Some(1)))?;
-        fates_are(&rt, &mut table, &[SHORT, SHORT, SHORT])?;
+        fates_are(&rt, &table, &[SHORT, SHORT, SHORT])?;
     }
     Ok(())
 }
@@ -152,12 +152,12 @@ fn at_full_only_a_held_pair_is_set(rt: HostRuntime) -> Result<(), Fail> {
     assert_eq!(rt; set(&mut table, (1, 1, 0, 0)), Ok(()));
     assert_eq!(rt; set(&mut table, (2, 2, FULL, FULL)), Ok(()));
     check_finds(&rt, &mut table, (3, 1, 1, None))?;
-    fates_are(&rt, &mut table, &[None, SHORT, None])?;
+    fates_are(&rt, &table, &[None, SHORT, None])?;
     assert_eq!(rt; set(&mut table, (0, 0, 0, 0)), Ok(()));
     assert_eq!(rt; set(&mut table, (1, 1, FULL, FULL)), Ok(()));
     assert_eq!(rt; set(&mut table, (0, 0, FULL, FULL)), full);
     check_finds(&rt, &mut table, (3, 1, 1, Some(1)))?;
-    fates_are(&rt, &mut table, &[SHORT, None, None])
+    fates_are(&rt, &table, &[SHORT, None, None])
 }
 
 #[test]
@@ -195,7 +195,7 @@ fn a_size_frees_every_place(rt: HostRuntime) -> Result<(), Fail> {
         make_falling(&rt, &mut table)?;
         table.size(4, start)?;
         check_finds(&rt, &mut table, (4, 4, 1, Some(1)))?;
-        fates_are(&rt, &mut table, &[SHORT; 4])?;
+        fates_are(&rt, &table, &[SHORT; 4])?;
         set_all(
             &mut table,
             &[
@@ -247,8 +247,8 @@ fn a_table_uses_4096_band_places(rt: HostRuntime) -> Result<(), Fail> {
     // One high is less, so that state 5 falls, and all that lean on it.
     assert_eq!(rt; set(&mut table, (5, 63, 0, 16_383)), Ok(()));
     check_finds(&rt, &mut table, (65, 65, 2, Some(1)))?;
-    fate_is(&rt, &mut table, 5, SHORT)?;
-    fate_is(&rt, &mut table, 63, Some((2, Reason::ShortOfFull)))?;
+    fate_is(&rt, &table, 5, SHORT)?;
+    fate_is(&rt, &table, 63, Some((2, Reason::ShortOfFull)))?;
     // The place of a removed pair is for another one.
     assert_eq!(rt; set(&mut table, (5, 63, 0, 0)), Ok(()));
     assert_eq!(rt; set(&mut table, (64, 64, FULL, FULL)), Ok(()));
@@ -272,6 +272,6 @@ fn one_place_fewer_is_one_band_fewer(rt: HostRuntime) -> Result<(), Fail> {
     );
     // The last pair is not held, so state 63 falls, and then all others.
     check_finds(&rt, &mut table, (64, 64, 2, Some(2)))?;
-    fate_is(&rt, &mut table, 62, Some((2, Reason::ShortOfFull)))?;
-    fate_is(&rt, &mut table, 63, SHORT)
+    fate_is(&rt, &table, 62, Some((2, Reason::ShortOfFull)))?;
+    fate_is(&rt, &table, 63, SHORT)
 }

@@ -86,7 +86,7 @@ pub(crate) fn check_finds<K: Amount>(
 /// Sees the rank and the reason of the first states.
 pub(crate) fn fates_are<K: Amount>(
     rt: &impl Abort,
-    table: &mut Table<'_, K>,
+    table: &Table<'_, K>,
     fates: &[Fate],
 ) -> Result<(), Fail> {
     for (state, fate) in fates.iter().enumerate() {
@@ -97,7 +97,7 @@ pub(crate) fn fates_are<K: Amount>(
 
 pub(crate) fn fate_is<K: Amount>(
     rt: &impl Abort,
-    table: &mut Table<'_, K>,
+    table: &Table<'_, K>,
     state: usize,
     fate: Fate,
 ) -> Result<(), Fail> {
@@ -109,7 +109,7 @@ pub(crate) fn fate_is<K: Amount>(
 }
 
 /// Sees that a table of three states has no verdict in force.
-pub(crate) fn has_no_verdict(rt: &impl Abort, table: &mut Table<'_, Share>) {
+pub(crate) fn has_no_verdict(rt: &impl Abort, table: &Table<'_, Share>) {
     for state in 0..3 {
         assert_eq!(rt; table.rank(state), Err(Refusal::NoVerdict));
         assert_eq!(rt; table.reason(state), Err(Refusal::NoVerdict));

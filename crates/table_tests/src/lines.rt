@@ -16,7 +16,7 @@ fn make_line(table: &mut Table<'_, Share>, start: usize) -> Result<(), Fail> {
 }
 
 /// Sees that the line falls from its last state on.
-fn line_fell(rt: &impl Abort, table: &mut Table<'_, Share>) -> Result<(), Fail> {
+fn line_fell(rt: &impl Abort, table: &Table<'_, Share>) -> Result<(), Fail> {
     for state in 0..255usize {
         let lost = Reason::Lost { target: state + 1 };
         fate_is(rt, table, state, Some(((256 - state) as u16, lost)))?;
@@ -31,7 +31,7 @@ fn a_line_falls_one_state_a_round(rt: HostRuntime) -> Result<(), Fail> {
     let mut table = Table::open(&mut band_places, &mut rank_places);
     make_line(&mut table, 0)?;
     check_finds(&rt, &mut table, (256, 256, 256, Some(256)))?;
-    line_fell(&rt, &mut table)
+    line_fell(&rt, &table)
 }
 
 #[test]
@@ -55,7 +55,7 @@ fn make_line_back(table: &mut Table<'_, Share>) -> Result<(), Fail> {
     Ok(())
 }
 
-fn line_back_fell(rt: &impl Abort, table: &mut Table<'_, Share>) -> Result<(), Fail> {
+fn line_back_fell(rt: &impl Abort, table: &Table<'_, Share>) -> Result<(), Fail> {
     fate_is(rt, table, 0, Some((1, Reason::ShortOfFull)))?;
     for state in 1..256usize {
         let lost = Reason::Lost { target: state - 1 };
@@ -72,10 +72,10 @@ fn a_line_back_takes_as_many_rounds(rt: HostRuntime) -> Result<(), Fail> {
     let mut table = Table::open(&mut band_places, &mut rank_places);
     make_line_back(&mut table)?;
     check_finds(&rt, &mut table, (256, 256, 256, Some(256)))?;
-    line_back_fell(&rt, &mut table)
+    line_back_fell(&rt, &table)
 }
 
-fn all_stand(rt: &impl Abort, table: &mut Table<'_, Share>) -> Result<(), Fail> {
+fn all_stand(rt: &impl Abort, table: &Table<'_, Share>) -> Result<(), Fail> {
     for state in 0..256 {
         fate_is(rt, table, state, None)?;
     }
@@ -91,7 +91,7 @@ fn a_line_whose_end_stands_stands(rt: HostRuntime) -> Result<(), Fail> {
     check_finds(&rt, &mut table, (256, 256, 256, Some(256)))?;
     set(&mut table, (255, 255, FULL, FULL))?;
     check_finds(&rt, &mut table, (256, 0, 0, None))?;
-    all_stand(&rt, &mut table)
+    all_stand(&rt, &table)
 }
 
 #[test]
@@ -101,7 +101,7 @@ fn rank_places_past_256_are_left(rt: HostRuntime) -> Result<(), Fail> {
     let mut table = Table::open(&mut band_places, &mut rank_places);
     make_line(&mut table, 0)?;
     check_finds(&rt, &mut table, (256, 256, 256, Some(256)))?;
-    line_fell(&rt, &mut table)?;
+    line_fell(&rt, &table)?;
     assert!(rt; rank_places[256..].iter().all(|rank| *rank == 9));
     Ok(())
 }
@@ -112,7 +112,7 @@ fn rank_places_past_the_states_are_left(rt: HostRuntime) -> Result<(), Fail> {
     let mut rank_places = [9u16; 8];
     let mut table = Table::open(&mut band_places, &mut rank_places);
     make_falling(&rt, &mut table)?;
-    fates_are(&rt, &mut table, &FALLING_FATES)?;
+    fates_are(&rt, &table, &FALLING_FATES)?;
     assert!(rt; rank_places[3..].iter().all(|rank| *rank == 9));
     Ok(())
 }

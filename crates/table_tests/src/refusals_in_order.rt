@@ -74,10 +74,10 @@ fn a_refused_size_leaves_the_table(rt: HostRuntime) -> Result<(), Fail> {
     make_falling(&rt, &mut table)?;
     for (states, start, refusal) in REFUSED_SIZES {
         assert_eq!(rt; table.size(states, start), Err(refusal));
-        fates_are(&rt, &mut table, &FALLING_FATES)?;
+        fates_are(&rt, &table, &FALLING_FATES)?;
     }
     check_finds(&rt, &mut table, (3, 2, 2, Some(2)))?;
-    fates_are(&rt, &mut table, &FALLING_FATES)
+    fates_are(&rt, &table, &FALLING_FATES)
 }
 
 #[test]
@@ -149,10 +149,10 @@ fn a_refused_set_leaves_the_table(rt: HostRuntime) -> Result<(), Fail> {
     make_falling(&rt, &mut table)?;
     for (given, refusal) in REFUSED_SETS {
         assert_eq!(rt; set(&mut table, given), Err(refusal));
-        fates_are(&rt, &mut table, &FALLING_FATES)?;
+        fates_are(&rt, &table, &FALLING_FATES)?;
     }
     check_finds(&rt, &mut table, (3, 2, 2, Some(2)))?;
-    fates_are(&rt, &mut table, &FALLING_FATES)
+    fates_are(&rt, &table, &FALLING_FATES)
 }
 
 #[test]
@@ -164,7 +164,7 @@ fn a_refused_set_changes_no_band(rt: HostRuntime) -> Result<(), Fail> {
     for (given, refusal) in REFUSED_SETS {
         assert_eq!(rt; set(&mut table, given), Err(refusal));
         check_finds(&rt, &mut table, (3, 2, 2, Some(2)))?;
-        fates_are(&rt, &mut table, &FALLING_FATES)?;
+        fates_are(&rt, &table, &FALLING_FATES)?;
     }
     Ok(())
 }
@@ -198,13 +198,13 @@ fn a_question_without_a_verdict_is_refused(rt: HostRuntime) -> Result<(), Fail> 
     let mut table = Table::open(&mut band_places, &mut rank_places);
     table.size(3, 0)?;
     set_all(&mut table, &FALLING)?;
-    has_no_verdict(&rt, &mut table);
+    has_no_verdict(&rt, &table);
     for state in [3, 4, 256, 65_536, LARGEST] {
         // There is no such state: that comes first.
         assert_eq!(rt; table.rank(state), Err(NO_SOURCE));
         assert_eq!(rt; table.reason(state), Err(NO_SOURCE));
     }
-    has_no_verdict(&rt, &mut table);
+    has_no_verdict(&rt, &table);
     Ok(())
 }
 
@@ -218,7 +218,7 @@ fn a_question_of_no_state_is_refused(rt: HostRuntime) -> Result<(), Fail> {
     for state in [3, 4, 7, 8, 256, 65_536, LARGEST] {
         assert_eq!(rt; table.rank(state), Err(NO_SOURCE));
         assert_eq!(rt; table.reason(state), Err(NO_SOURCE));
-        fates_are(&rt, &mut table, &FALLING_FATES)?;
+        fates_are(&rt, &table, &FALLING_FATES)?;
     }
     Ok(())
 }
@@ -231,7 +231,7 @@ fn a_standing_state_has_no_reason(rt: HostRuntime) -> Result<(), Fail> {
     make_falling(&rt, &mut table)?;
     assert_eq!(rt; table.reason(1), Err(Refusal::Standing));
     assert_eq!(rt; table.reason(1), Err(Refusal::Standing));
-    fates_are(&rt, &mut table, &FALLING_FATES)?;
+    fates_are(&rt, &table, &FALLING_FATES)?;
     // It stands still, but no verdict says so.
     set(&mut table, (2, 2, 0, 0))?;
     assert_eq!(rt; table.reason(1), Err(Refusal::NoVerdict));

@@ -28,7 +28,7 @@ fn judged(
     set_all(&mut table, bands)?;
     let start = fates.first().and_then(|fate| fate.map(|(rank, _)| rank));
     check_finds(rt, &mut table, (fates.len(), found.0, found.1, start))?;
-    fates_are(rt, &mut table, fates)
+    fates_are(rt, &table, fates)
 }
 
 /// A low and a high of some kind of amount, from their numbers.
@@ -39,27 +39,27 @@ fn bounds<K: RecordNumber>((low, high): (u32, u32)) -> Result<Bounds<K>, Refusal
 }
 
 /// Sees that state 0 has this fate with these two bands, to states 1 and 2, which pass all to themselves and so stand.
-// The places are lent from outside: the check cannot tell that an array of bands of an unknown kind fits in memory.
+// The table is lent from outside: the check cannot tell that an array of bands of an unknown kind fits in memory.
 fn on_two<K: RecordNumber>(
     rt: &impl Abort,
-    band_places: &mut [Band<K>],
+    table: &mut Table<'_, K>,
+    full: u32,
     to_1: (u32, u32),
     to_2: (u32, u32),
     fate: Fate,
 ) -> Result<(), Fail> {
-    let to_1 = bounds(to_1)?;
-    let to_2 = bounds(to_2)?;
-    let mut rank_places = [9u16; 3];
-    let mut table = Table::open(band_places, &mut rank_places);
+    let to_1 = bounds::<K>(to_1)?;
+    let to_2 = bounds::<K>(to_2)?;
+    let all = bounds::<K>((full, full))?;
     table.size(3, 0)?;
     table.set(0, 1, to_1.low, to_1.high)?;
     table.set(0, 2, to_2.low, to_2.high)?;
-    table.set(1, 1, K::full(), K::full())?;
-    table.set(2, 2, K::full(), K::full())?;
+    table.set(1, 1, all.low, all.high)?;
+    table.set(2, 2, all.low, all.high)?;
     let fell = usize::from(fate.is_some());
     let start = fate.map(|(rank, _)| rank);
-    check_finds(rt, &mut table, (3, fell, fell, start))?;
-    fates_are(rt, &mut table, &[fate, None, None])
+    check_finds(rt, table, (3, fell, fell, start))?;
+    fates_are(rt, table, &[fate, None, None])
 }
 
 /// The same with shares, which add up.
@@ -69,7 +69,10 @@ fn judged_on_two(
     to_2: (u32, u32),
     fate: Fate,
 ) -> Result<(), Fail> {
-    on_two(rt, &mut [UNUSED; 4], to_1, to_2, fate)
+    let mut band_places = [UNUSED; 8];
+    let mut rank_places = [9u16; 4];
+    let mut table = Table::open(&mut band_places, &mut rank_places);
+    on_two(rt, &mut table, FULL, to_1, to_2, fate)
 }
 
 #[test]
@@ -93,7 +96,7 @@ fn any_state_may_be_the_start(rt: HostRuntime) -> Result<(), Fail> {
         table.size(3, start)?;
         set_all(&mut table, &FALLING)?;
         check_finds(&rt, &mut table, (3, 2, 2, rank))?;
-        fates_are(&rt, &mut table, &FALLING_FATES)?;
+        fates_are(&rt, &table, &FALLING_FATES)?;
     }
     Ok(())
 }
@@ -226,13 +229,16 @@ fn graded_on_two(
     to_2: (u32, u32),
     fate: Fate,
 ) -> Result<(), Fail> {
-    let unused = Band {
-        source: 7,
-        target: 7,
-        low: Grade { number: 7 },
-        high: Grade { number: 7 },
-    };
-    on_two(rt, &mut [unused; 4], to_1, to_2, fate)
+    let unused = Grade { number: 7 };
+    let mut band_places = [Band {
+        source: 0,
+        target: 0,
+        low: unused,
+        high: unused,
+    }; 4];
+    let mut rank_places = [9u16; 3];
+    let mut table = Table::open(&mut band_places, &mut rank_places);
+    on_two(rt, &mut table, 1_000, to_1, to_2, fate)
 }
 
 #[test]

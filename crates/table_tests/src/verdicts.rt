@@ -15,9 +15,9 @@ fn lapses_at(rt: &impl Abort, given: Given, found: Found, fates: &[Fate; 3]) -> 
     let mut table = Table::open(&mut band_places, &mut rank_places);
     make_falling(rt, &mut table)?;
     set(&mut table, given)?;
-    has_no_verdict(rt, &mut table);
+    has_no_verdict(rt, &table);
     check_finds(rt, &mut table, found)?;
-    fates_are(rt, &mut table, fates)
+    fates_are(rt, &table, fates)
 }
 
 #[test]
@@ -59,9 +59,9 @@ fn it_lapses_at_nothing_when_no_place_is_free(rt: HostRuntime) -> Result<(), Fai
     let mut table = Table::open(&mut band_places, &mut rank_places);
     make_falling(&rt, &mut table)?;
     set(&mut table, (1, 0, 0, 0))?;
-    has_no_verdict(&rt, &mut table);
+    has_no_verdict(&rt, &table);
     check_finds(&rt, &mut table, (3, 2, 2, Some(2)))?;
-    fates_are(&rt, &mut table, &FALLING_FATES)
+    fates_are(&rt, &table, &FALLING_FATES)
 }
 
 #[test]
@@ -72,10 +72,10 @@ fn it_lapses_at_a_size(rt: HostRuntime) -> Result<(), Fail> {
     for states in 3..6 {
         make_falling(&rt, &mut table)?;
         table.size(states, 1)?;
-        has_no_verdict(&rt, &mut table);
+        has_no_verdict(&rt, &table);
         // Every band is cleared.
         check_finds(&rt, &mut table, (states, states, 1, Some(1)))?;
-        fates_are(&rt, &mut table, &[Some((1, Reason::ShortOfFull)); 3])?;
+        fates_are(&rt, &table, &[Some((1, Reason::ShortOfFull)); 3])?;
     }
     Ok(())
 }
@@ -86,11 +86,11 @@ fn a_new_table_has_none(rt: HostRuntime) -> Result<(), Fail> {
     let mut rank_places = [1u16; 3];
     let mut table = Table::open(&mut band_places, &mut rank_places);
     table.size(3, 0)?;
-    has_no_verdict(&rt, &mut table);
+    has_no_verdict(&rt, &table);
     set_all(&mut table, &FALLING)?;
-    has_no_verdict(&rt, &mut table);
+    has_no_verdict(&rt, &table);
     check_finds(&rt, &mut table, (3, 2, 2, Some(2)))?;
-    fates_are(&rt, &mut table, &FALLING_FATES)
+    fates_are(&rt, &table, &FALLING_FATES)
 }
 
 /// Opens a table over places as they are, and leaves in them what a verdict needs.
@@ -102,7 +102,7 @@ fn opens_without(
     let mut table = Table::open(band_places, rank_places);
     assert_eq!(rt; table.rank(0), Err(Refusal::NoStates));
     table.size(3, 0)?;
-    has_no_verdict(rt, &mut table);
+    has_no_verdict(rt, &table);
     make_falling(rt, &mut table)
 }
 
@@ -131,7 +131,7 @@ fn refused_calls_leave_it(rt: HostRuntime) -> Result<(), Fail> {
     assert!(rt; table.rank(3).is_err());
     assert!(rt; table.reason(3).is_err());
     assert!(rt; table.reason(1).is_err());
-    fates_are(&rt, &mut table, &FALLING_FATES)
+    fates_are(&rt, &table, &FALLING_FATES)
 }
 
 #[test]
@@ -144,7 +144,7 @@ fn refused_calls_bring_none(rt: HostRuntime) -> Result<(), Fail> {
     assert!(rt; table.size(4, 0).is_err());
     assert!(rt; set(&mut table, (1, 0, 0, 1)).is_err());
     assert!(rt; table.rank(3).is_err());
-    has_no_verdict(&rt, &mut table);
+    has_no_verdict(&rt, &table);
     Ok(())
 }
 
@@ -155,9 +155,9 @@ fn questions_and_checks_leave_it(rt: HostRuntime) -> Result<(), Fail> {
     let mut table = Table::open(&mut band_places, &mut rank_places);
     make_falling(&rt, &mut table)?;
     for _ in 0..3 {
-        fates_are(&rt, &mut table, &FALLING_FATES)?;
-        fates_are(&rt, &mut table, &FALLING_FATES)?;
+        fates_are(&rt, &table, &FALLING_FATES)?;
+        fates_are(&rt, &table, &FALLING_FATES)?;
         check_finds(&rt, &mut table, (3, 2, 2, Some(2)))?;
     }
-    fates_are(&rt, &mut table, &FALLING_FATES)
+    fates_are(&rt, &table, &FALLING_FATES)
 }

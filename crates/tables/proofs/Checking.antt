@@ -1,14 +1,11 @@
 -- What a check leaves: the ranks of all rounds in the rank places, and a verdict on them.
-use Rattle.std.proofs.Common.{◌≡◌, ℕ, ◌<◌, min, true, leb, List, ◌++◌, length, None, Ok, Err, sym, refl, ap, ◌∙◌, subst, arith}
-use Rattle.std.proofs.lemmas.List.{get_or_append_left}
-use Rattle.std.proofs.lemmas.Bool.{eq-eqb, leb-false, ne_eqb}
+use Rattle.std.proofs.Common.{◌≡◌, ℕ, ◌<◌, min, true, leb, length, None, Ok, sym, ap, ◌∙◌, subst, arith}
+use Rattle.std.proofs.lemmas.Bool.{leb-false, ne_eqb}
 use Rattle.amounts.specs.Kinds.{Kind, Laws}
-use Rattle.refusals.specs.declared.Refusal.TheVariants.{NoStates}
 use Rattle.theory.proofs.Ranks as theory
-use Rattle.theory.specs.Models.{Model}
 use Rattle.tables.specs.Calls.{left_of, Sound, Checked}
 use Rattle.tables.specs.Judging.{Ranked}
-use Rattle.tables.specs.Left.{Left, Proper, answered, judged, no_states, no_such_state, no_question, question_refusal, model_in, rank_left, as_rank}
+use Rattle.tables.specs.Left.{Left, Proper, judged, no_states, no_such_state, no_question, model_in, rank_left, as_rank}
 use Rattle.tables.specs.Passes.{rank_in}
 use Rattle.tables.specs.Places.{bands_of}
 use Rattle.tables.specs.declared.tally.Tally.{Tally}
@@ -16,25 +13,7 @@ use Rattle.tables.specs.declared.table.Table.{Table}
 use Rattle.tables.specs.declared.verdict.Verdict.{Verdict}
 use Rattle.tables.proofs.Refusing.{both_none, not_refused, not_refused_else}
 
--- ranks that stand in the first places, one for each state, are read there
-pub ranked_first : {S : Type 0} {k : Kind S} {m : Model S} {ranks : List ℕ} {tally : Tally} (rest : List ℕ) → length ranks ≡ m.states → Ranked k m ranks tally → Ranked k m (ranks ++ rest) tally
-ranked_first {ranks = ranks} rest long ranked = record {
-  ranks = λ u below. get_or_append_left ranks rest 0 u (omega arith) ∙ ranked.ranks u below;
-  removed = ranked.removed;
-  rounds = ranked.rounds;
-}
-
 module _ {S : Type 0} {k : Kind S} (laws : Laws k) (t : Table S) (sound : Sound k t) where
-  pub not_checked : t.states ≡ 0 → Checked k t t (Err NoStates)
-  not_checked none = record {
-    answer = (none, refl);
-    left = rw (eq-eqb t.states 0 none);
-    ranks = theory.ranks k (model_in k (left_of t)) laws;
-    only = λ rank given u below. theory.only k (model_in k (left_of t)) laws rank given u below;
-    refused = λ _. refl;
-    sound = sound;
-  }
-
   module _ (some : 0 < t.states) (after : Table S) (held : bands_of after ≡ bands_of t) (band_places : length after.bands.now ≡ length t.bands.now) (places : length after.ranks.now ≡ length t.ranks.now) (same_states : after.states ≡ t.states) (same_start : after.start ≡ t.start) (checked : after.checked ≡ true) (tally : Tally) (ranked : Ranked k (model_in k (left_of t)) after.ranks.now tally) where
     left_after : left_of after ≡ judged (left_of t)
     left_after = λ i. record { places = min (band_places i) 4_096; ranks = places i; states = same_states i; start = same_start i; held = held i; verdict = checked i }
@@ -87,6 +66,3 @@ module _ {S : Type 0} (t : Table S) (u : ℕ) (no_refusal : no_question t.states
       let after_states = both_none (no_states t.states) _ no_refusal in
       let after_state = both_none (no_such_state t.states 0 u) _ after_states.1 in
       not_refused_else t.checked _ after_state.1
-
-  pub rank_asked : {k : Kind S} → Sound k t → Ok (as_rank (rank_in t.ranks.now u)) ≡ answered (question_refusal (left_of t) u) (as_rank (rank_left k (left_of t) u))
-  rank_asked sound = rw no_refusal (ap (λ (r : ℕ). Ok (as_rank r)) (sound.ranked in_force u in_states))

@@ -25,9 +25,7 @@ use Rattle.tables.proofs.Refusing.{answered_ok, answered_err}
 -- what a result tells whose fault was given the index of its record
 module _ {T F : Type 0} (P : F → Numbered F → Type 0) where
   pub read_ok : (r : Result T F) (s : Result T (Numbered F)) (x : T) → MatchResult r (λ y. s ≡ Ok y) (λ f. IsErrAnd s (P f)) → s ≡ Ok x → r ≡ Ok x
-  read_ok (Ok y) s x cases is = let same : ◌≡◌ {A = Result T (Numbered F)} (Ok y) (Ok x) = sym cases ∙ is in cc
-  read_ok (Err f) (Ok y) x cases is = absurd cases
-  read_ok (Err f) (Err n) x cases is = let z : ◌≡◌ {A = ℕ} 0 1 = cc in absurd (omega arith)
+  read_ok r s x cases is = grind arith
 
   pub read_err : (at : ℕ) (r : Result T F) (s : Result T (Numbered F)) (n : Numbered F) → MatchResult r (λ y. s ≡ Ok y) (λ f. IsErrAnd s (P f)) → ((f : F) (m : Numbered F) → P f m → m ≡ record { index = at; fault = f }) → s ≡ Err n → (r ≡ Err n.fault) × (n.index ≡ at)
   read_err at (Ok y) s n cases gives is = let same : ◌≡◌ {A = Result T (Numbered F)} (Ok y) (Err n) = sym cases ∙ is in let z : ◌≡◌ {A = ℕ} 0 1 = cc in absurd (omega arith)

@@ -1,6 +1,7 @@
 -- Why a ranked state fell: what is found by the ranks of a sound table.
-use Rattle.std.proofs.Common.{◌≡◌, ℕ, suc, ◌-◌, ◌<◌, true, Some, None, Err, Option, Result, sym, refl, ◌∙◌, subst, ⊎_elim, arith}
-use Rattle.std.proofs.lemmas.Bool.{cases_eq, eq-eqb, ne_eqb}
+use Rattle.std.proofs.Common.{◌≡◌, ℕ, suc, ◌-◌, ◌<◌, true, Some, None, Err, Option, Result, sym, ◌∙◌, subst, ⊎_elim, arith}
+use Rattle.std.proofs.lemmas.Bool.{cases_eq, ne_eqb}
+use Rattle.std.proofs.lemmas.Bool.Decides.{nat_tests}
 use Rattle.std.specs.Option.{ok_or}
 use Rattle.amounts.specs.Kinds.{Kind, Laws}
 use Rattle.refusals.specs.declared.Refusal.{Refusal}
@@ -17,16 +18,9 @@ use Rattle.tables.specs.declared.table.Table.{Table}
 
 -- a rank that is not 0 is shown as it is
 pub rank_some : (r rank : ℕ) → Some rank ≡ as_rank r → (r ≡ 0 → ⊥) × (rank ≡ r)
-rank_some r rank is =
-    ⊎_elim
-    (λ (zero : r ≡ 0). let z : ◌≡◌ {A = ℕ} 0 1 = let none : Some rank ≡ None = is ∙ rw (eq-eqb r 0 zero) in cc in absurd (omega arith))
-    (λ (some : r ≡ 0 → ⊥). (some, let same : Some rank ≡ Some r = is ∙ rw (ne_eqb r 0 some) in cc))
-    (cases_eq r 0)
+rank_some r rank is = grind (arith, nat_tests)
 
 module _ {S : Type 0} (k : Kind S) (t : Table S) (sound : Sound k t) (in_force : t.checked ≡ true) (u : ℕ) (inside : u < t.states) where
-  pub no_reason : rank_in t.ranks.now u ≡ 0 → None ≡ reason_left k (left_of t) u
-  no_reason none = rw (eq-eqb (rank_left k (left_of t) u) 0 (sym (sound.ranked in_force u inside) ∙ none))
-
   pub reason_found : (rank_in t.ranks.now u ≡ 0 → ⊥) → reason_of k (model_in k (left_of t)) (not_before (rank_in t.ranks.now) (rank_in t.ranks.now u)) u ≡ reason_left k (left_of t) u
   reason_found some =
       let r = sound.ranked in_force u inside in
@@ -47,8 +41,7 @@ module _ {S : Type 0} (k : Kind S) (laws : Laws k) (l : Left S) (u : ℕ) (insid
       (cases_eq (rank_left k l u) 0)
 
   refused_standing : (why : Option Reason) → ok_or why Standing ≡ Err Standing → why ≡ None
-  refused_standing None is = refl
-  refused_standing (Some reason) is = let z : ◌≡◌ {A = ℕ} 0 1 = cc in absurd (omega arith)
+  refused_standing why is = grind (arith, nat_tests)
 
   pub reason_answer_lem : (r : Result Reason Refusal) → question_refusal l u ≡ None → r ≡ reason_answer k l u → ReasonAnswer k l u r
   reason_answer_lem r asked is = record {

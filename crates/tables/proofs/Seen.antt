@@ -8,7 +8,7 @@ use Rattle.std.specs.List.{AllByRecursion}
 use Rattle.amounts.specs.Kinds.{Kind, Laws, Same}
 use Rattle.amounts.specs.declared.bounds.Bounds.{Bounds}
 use Rattle.theory.proofs.Below.{lowest_kept}
-use Rattle.theory.proofs.Sameness.{same_refl, same_sym, same_trans, same_total, total_nothing_right, test_from_at_most, test_same_left, test_same_right}
+use Rattle.theory.proofs.Sameness.{same_refl, same_sym, same_trans, same_total, total_nothing_right, test_same_left, test_same_right}
 use Rattle.theory.specs.Consistency.{low_inside, high_inside, is_lost, is_crossed, first_reason, reason_of}
 use Rattle.theory.specs.Models.{Model, total_below, lowest_below}
 use Rattle.theory.specs.declared.reason.Reason.TheVariants.{Lost}
@@ -59,7 +59,7 @@ module _ {S : Type 0} {k : Kind S} (laws : Laws k) (m : Model S) (x : ℕ → Bo
 
     skip_one : m.band s v ≡ unheld → Seen (suc v) crossed low high
     skip_one none =
-        let least : k.at_most k.nothing k.nothing ≡ true = test_from_at_most k.nothing k.nothing (laws.at_most_refl k.nothing) in
+        let least : k.at_most k.nothing k.nothing ≡ true = (laws.at_most_refl k.nothing).holds in
         adds_none
         (cond_both (x v) (m.band s v).low k.nothing (λ (a : S). a ≡ k.nothing) (λ _. ap (λ (b : Bounds S). b.low) none) (λ _. refl))
         (cond_both (x v) (m.band s v).high k.nothing (λ (a : S). a ≡ k.nothing) (λ _. ap (λ (b : Bounds S). b.high) none) (λ _. refl))

@@ -6,7 +6,6 @@ use Rattle.amounts.specs.Kinds.{Kind, AtMost}
 use Rattle.refusals.specs.declared.Bound.TheVariants.{Low, High}
 use Rattle.refusals.specs.declared.Refusal.{Refusal}
 use Rattle.refusals.specs.declared.Refusal.TheVariants.{NoFreePlace}
-use Rattle.theory.proofs.Sameness.{at_most_from_test}
 use Rattle.tables.specs.Calls.{left_of, Sound, count_after, Reads, BandSet}
 use Rattle.tables.specs.Held.{HasSmallTargets, key_of, bounds_of, is_held, both_nothing, with_band, lacks_place}
 use Rattle.tables.specs.Left.{Left, Proper, answered, no_states, no_such_state, no_amount, no_band, set_refusal, banded}
@@ -33,8 +32,8 @@ makes k states b none =
     record {
       source = leb-false states b.source (not_refused (leb states b.source) _ after_source.0);
       target = leb-false states b.target (not_refused (leb states b.target) _ after_target.0);
-      low = at_most_from_test b.low k.full (not_refused_else (k.at_most b.low k.full) _ bounds.0);
-      high = at_most_from_test b.high k.full (not_refused_else (k.at_most b.high k.full) _ bounds.1);
+      low = record { holds = not_refused_else (k.at_most b.low k.full) _ bounds.0 };
+      high = record { holds = not_refused_else (k.at_most b.high k.full) _ bounds.1 };
     }
 
 module _ {S : Type 0} (k : Kind S) (l : Left S) (b : Band S) (proper : Proper k l) (made : Makes k l.states b) (room : lacks_place k b l.places l.held ≡ false) where

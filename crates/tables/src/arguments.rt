@@ -6,7 +6,7 @@ use crate::band::Band;
 use amounts::amount::Amount;
 use refusals::{Bound, Refusal};
 
-/// What a set asks for: its arguments, not yet looked at.
+/// What a set asks for: its arguments, not yet looked at. They are no `Band`, whose states have 16 bits.
 #[derive(Clone, Copy)]
 pub(crate) struct Asked<K> {
     pub source: usize,

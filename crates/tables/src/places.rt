@@ -81,5 +81,5 @@ impl<'a, K: Amount> Table<'a, K> {
 fn is_nothing<K: Amount>(band: &Band<K>) -> bool
     ensures { result ≡ both_nothing K.Amount.kind (bounds_of band.now) }
 {
-    band.low.at_most(K::nothing()) & band.high.at_most(K::nothing())
+    band.low.at_most(K::nothing()) && band.high.at_most(K::nothing())
 }

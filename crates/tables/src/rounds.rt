@@ -2,9 +2,8 @@
 ghost use Rattle.std.specs.Prelude.{◌≡◌, ℕ, suc, ◌+◌, ◌<◌, ◌≤◌, ◌&&◌, length, IsTrue, is_some, ◌==◌};
 ghost use Rattle.tables.specs.Held.{model_of};
 ghost use Rattle.tables.specs.Judging.{Orderly, RanksAfter, Round, Ranked};
-ghost use Rattle.tables.specs.Passes.{rank_in, standing_count};
+ghost use Rattle.tables.specs.Passes.{rank_in, remaining, standing_count};
 ghost use Rattle.theory.specs.Consistency.{reason_of};
-ghost use Rattle.theory.specs.Rounds.{not_before};
 
 use crate::band::Band;
 use crate::reasons::{Remaining, rank_at, reason_of};
@@ -12,6 +11,7 @@ use crate::tally::Tally;
 use amounts::amount::Amount;
 
 /// Runs rounds until no state falls, and writes the rank of each state, which has one place.
+// The order of the bands is a premise, here and below: a check answers for any table, and promises only of a sound one.
 pub(crate) fn run_rounds<K: Amount>(held: &[Band<K>], ranks: &mut [u16]) -> Tally
     requires few { length ranks.old ≤ 256 }
     ensures bounded { result.removed ≤ length ranks.old }
@@ -44,7 +44,7 @@ fn run_round<K: Amount>(held: &[Band<K>], ranks: &mut [u16], round: u16) -> usiz
     let mut fallen = 0;
     // The whole of `ranks` is read at each state, so no iterator may hold it.
     for t in 0..ranks.len() {
-        if falls(held, t, ranks, round) {
+        if falls(held, t, &Remaining { ranks, round }) {
             ranks[t] = round;
             fallen += 1;
         }
@@ -53,11 +53,10 @@ fn run_round<K: Amount>(held: &[Band<K>], ranks: &mut [u16], round: u16) -> usiz
 }
 
 /// Whether a state falls in a round: it has no rank yet, and has a reason to fall.
-fn falls<K: Amount>(held: &[Band<K>], state: usize, ranks: &[u16], round: u16) -> bool
+fn falls<K: Amount>(held: &[Band<K>], state: usize, set: &Remaining<'_>) -> bool
     requires few { state < 65536 }
-    ensures unranked { IsTrue result → rank_in ranks.now state ≡ 0 }
-    ensures falls { (states : ℕ) → Orderly states held.now → result ≡ (rank_in ranks.now state == 0 && is_some (reason_of K.Amount.kind (model_of K.Amount.kind states held.now) (not_before (rank_in ranks.now) round) state)) }
+    ensures unranked { IsTrue result → rank_in set.now.ranks.now state ≡ 0 }
+    ensures falls { (states : ℕ) → Orderly states held.now → result ≡ (rank_in set.now.ranks.now state == 0 && is_some (reason_of K.Amount.kind (model_of K.Amount.kind states held.now) (remaining set.now) state)) }
 {
-    rank_at(ranks, state) == 0
-        && reason_of(held, state as u16, &Remaining { ranks, round }).is_some()
+    rank_at(set.ranks, state) == 0 && reason_of(held, state as u16, set).is_some()
 }

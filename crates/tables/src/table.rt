@@ -21,6 +21,7 @@ pub struct Table<'a, K> {
     pub(crate) bands: &'a mut [Band<K>],
     /// Plain numbers, as the caller lends them: 0 is no rank.
     pub(crate) ranks: &'a mut [u16],
+    /// How many of the band places are held, from the first on: the caller lends more.
     pub(crate) held: usize,
     /// 0 before the first size. An `Option` would be asked for at each test of a state, which 0 fails by itself.
     pub(crate) states: usize,
@@ -109,13 +110,13 @@ impl<'a, K: Amount> Table<'a, K> {
         ensures lent { Lent self.old self.new }
     {
         let start = self.start;
-        let tally = self.run_rounds();
+        let tally = self.rank_states();
         self.checked = true;
         verdict_of(self.states, tally, self.rank_of(start))
     }
 
     /// Runs the rounds over a copy of the ranks, since no call can take one lent slice for reading and the other for writing.
-    fn run_rounds(&mut self) -> Tally
+    fn rank_states(&mut self) -> Tally
         ensures bounded { result.removed ≤ self.old.states }
         ensures ran { RoundsRun K.Amount.kind self.old self.new result }
     {
@@ -178,5 +179,5 @@ impl<'a, K: Amount> Table<'a, K> {
 fn is_no_count(states: usize, rank_places: usize) -> bool
     ensures { result ≡ (states == 0 || (nat_lt 256 states || nat_lt rank_places states)) }
 {
-    (states == 0) | (STATES < states) | (rank_places < states)
+    states == 0 || STATES < states || rank_places < states
 }

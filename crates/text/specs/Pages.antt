@@ -1,9 +1,13 @@
 -- What it means to put a text on a page.
-use Rattle.std.specs.Prelude.{◌≡◌, ℕ, List, Ok, OnErr, Result}
+use Rattle.std.specs.Prelude.{◌≡◌, ℕ, ◌+◌, ◌≤◌, List, length, Ok, OnErr, Result}
 use Rattle.std.specs.Result.{result_and}
 use Rattle.text.specs.Puts.{Put}
 use Rattle.text.specs.declared.page.Page.{Page}
 use Rattle.text.specs.declared.room.TooShort.{TooShort}
+
+-- so many bytes fit where the next text begins
+abbrev pub HasRoom : Page → ℕ → Type 0
+HasRoom page n = page.at + n ≤ length page.bytes.now
 
 -- ys was put where the next text begins, and the text after it begins at its end; a refused page stays as it was.
 -- Its bytes are still those that the caller lent.

@@ -1,6 +1,6 @@
 // Pages: bytes that the caller lends, and where the next text in them begins.
 ghost use Rattle.std.specs.Prelude.{◌≡◌, ◌+◌, ◌≤◌, length, decimal};
-ghost use Rattle.text.specs.Pages.{PutOn};
+ghost use Rattle.text.specs.Pages.{HasRoom, PutOn};
 ghost use Rattle.text.specs.Pieces.{bytes_of, printed};
 ghost use Rattle.text.specs.Puts.{end_of, hexadecimal};
 
@@ -51,8 +51,9 @@ impl<'a> Page<'a> {
         self.put_digits(bytes)
     }
 
+    // As `put_each` does of pieces: one function over both would take the put as a closure, and its contract with it.
     fn put_digits(&mut self, bytes: &[u8]) -> Result<(), TooShort>
-        requires { self.old.at + length (hexadecimal bytes.now) ≤ length self.old.bytes.now }
+        requires { HasRoom self.old (length (hexadecimal bytes.now)) }
         ensures { PutOn self.old (hexadecimal bytes.now) self.new result }
     {
         for byte in bytes {
@@ -71,7 +72,7 @@ impl<'a> Page<'a> {
     }
 
     fn put_each(&mut self, pieces: &[Piece<'_>]) -> Result<(), TooShort>
-        requires { self.old.at + length (printed pieces.now) ≤ length self.old.bytes.now }
+        requires { HasRoom self.old (length (printed pieces.now)) }
         ensures { PutOn self.old (printed pieces.now) self.new result }
     {
         for piece in pieces {

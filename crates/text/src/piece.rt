@@ -7,6 +7,7 @@ use crate::hex::hex_len;
 use itoa::Buffer;
 
 /// A piece of text: bytes as they stand, a number in decimal, or bytes in hexadecimal.
+/// It has no `Display`: no clause of `write!` says that it succeeds where there is room, as a put does.
 #[derive(Clone, Copy)]
 pub enum Piece<'a> {
     Word(&'a [u8]),
@@ -33,7 +34,7 @@ pub(crate) fn pieces_len(pieces: &[Piece<'_>]) -> usize
     pieces.iter().map(Piece::len).fold(0, usize::saturating_add)
 }
 
-// One impl for each width: `Into<u64>` leaves out `usize`, and no macro may write an impl.
+// One impl for each width: `Into<u64>` leaves out `usize`, and a macro may write no ghost member.
 impl From<u8> for Piece<'_> {
     ghost from_gives = { λ number r. r ≡ Decimal number };
 

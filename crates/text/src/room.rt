@@ -1,4 +1,4 @@
-// What is needed where a text does not fit.
+// The room for a text: whether there is enough, and what is needed where there is not.
 ghost use Rattle.std.specs.Prelude.{◌≡◌, length, Ok, Err, nat_le, if◌then◌else◌};
 ghost use Rattle.refusals.specs.declared.Refusal.TheVariants.{ShortList};
 

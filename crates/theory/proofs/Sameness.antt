@@ -3,13 +3,6 @@ use Rattle.std.proofs.Common.{◌≡◌, true, arith}
 use Rattle.std.proofs.lemmas.Bool.Decides.{nat_tests}
 use Rattle.amounts.specs.Kinds.{Kind, Laws, AtMost, Same}
 
-module _ {S : Type 0} {k : Kind S} where
-  pub at_most_from_test : (x y : S) → k.at_most x y ≡ true → AtMost k x y
-  at_most_from_test x y passes = record { holds = passes }
-
-  pub test_from_at_most : (x y : S) → AtMost k x y → k.at_most x y ≡ true
-  test_from_at_most x y most = most.holds
-
 module _ {S : Type 0} {k : Kind S} (laws : Laws k) where
   pub same_refl : (x : S) → Same k x x
   same_refl x = record { there = laws.at_most_refl x; back = laws.at_most_refl x }
@@ -29,8 +22,8 @@ module _ {S : Type 0} {k : Kind S} (laws : Laws k) where
   -- the same amounts pass the same tests
   tests_same : {x y v w : S} → AtMost k v x → AtMost k x v → AtMost k y w → AtMost k w y → k.at_most x y ≡ k.at_most v w
   tests_same {x} {y} {v} {w} v_x x_v y_w w_y =
-      let there = λ (p : k.at_most x y ≡ true). test_from_at_most v w (laws.at_most_trans v x w v_x (laws.at_most_trans x y w (at_most_from_test x y p) y_w)) in
-      let back = λ (p : k.at_most v w ≡ true). test_from_at_most x y (laws.at_most_trans x v y x_v (laws.at_most_trans v w y (at_most_from_test v w p) w_y)) in
+      let there = λ (p : k.at_most x y ≡ true). (laws.at_most_trans v x w v_x (laws.at_most_trans x y w (record { holds = p }) y_w)).holds in
+      let back = λ (p : k.at_most v w ≡ true). (laws.at_most_trans x v y x_v (laws.at_most_trans v w y (record { holds = p }) w_y)).holds in
       grind (arith, nat_tests)
 
   pub test_same_left : {x v : S} (y : S) → Same k x v → k.at_most x y ≡ k.at_most v y

@@ -14,7 +14,7 @@ unfoldable pub total_below : {S : Type 0} → Kind S → (ℕ → S) → ℕ →
 total_below k f zero = k.nothing
 total_below k f (suc n) = k.total (total_below k f n) (f n)
 
--- the lowest number below n that passes a test
+-- the lowest number below n that passes a test; the record format counts up from a position instead, and no crate lies below both
 unfoldable pub lowest_below : (ℕ → Bool) → ℕ → Option ℕ
 lowest_below test zero = None
 lowest_below test (suc n) = option_or (lowest_below test n) (if test n then Some n else None)
