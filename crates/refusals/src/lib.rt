@@ -41,6 +41,7 @@ pub enum Refusal {
     NoFreePlace,
 }
 
+// The numbers are the product's own. Variants with fields have no discriminant, and a place is no conversion.
 impl Refusal {
     pub fn number(self) -> u8
         ensures { result ≡ number_of self }

@@ -73,6 +73,7 @@ impl<'a, K: RecordNumber> Table<'a, K> {
         let mut reader = Reader::new(records);
         let mut counts = Counts::none();
         'records: loop {
+            // Here and in a listing: a sum of two fields is no plainer under a name.
             let index = counts.bands + counts.names;
             let Some(entry) = reader.next().map_err(|fault| Numbered { index, fault })? else {
                 return Ok(counts);
