@@ -5,6 +5,7 @@ use refusals::Refusal;
 use std::process::Abort;
 use std::test::Fail;
 use tables::band::Band;
+use tables::load::LoadFault;
 use tables::table::Table;
 use theory::reason::Reason;
 
@@ -56,6 +57,27 @@ pub(crate) fn set_all(table: &mut Table<'_, Share>, bands: &[Given]) -> Result<(
     for given in bands {
         set(table, *given)?;
     }
+    Ok(())
+}
+
+/// The record of a band. A state past 255 has no record, and is cut.
+pub(crate) fn record(given: Given) -> [u8; 12] {
+    let (source, target, low, high) = given;
+    let l = low.to_le_bytes();
+    let h = high.to_le_bytes();
+    let (from, to) = (source.to_le_bytes()[0], target.to_le_bytes()[0]);
+    [
+        0x42, from, to, 0, l[0], l[1], l[2], l[3], h[0], h[1], h[2], h[3],
+    ]
+}
+
+/// Loads the records of at most eight bands, in this order.
+pub(crate) fn load_all(table: &mut Table<'_, Share>, bands: &[Given]) -> Result<(), LoadFault> {
+    let mut records = [[0u8; 12]; 8];
+    for (place, given) in records.iter_mut().zip(bands) {
+        *place = record(*given);
+    }
+    table.load(records[..bands.len().min(8)].as_flattened())?;
     Ok(())
 }
 

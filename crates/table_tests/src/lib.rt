@@ -8,6 +8,8 @@ mod helpers;
 #[cfg(test)]
 mod lines;
 #[cfg(test)]
+mod loads;
+#[cfg(test)]
 mod refusals_in_order;
 #[cfg(test)]
 mod small_tables;

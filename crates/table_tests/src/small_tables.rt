@@ -14,7 +14,7 @@ const SHORT: Fate = Some((1, Reason::ShortOfFull));
 
 const OVER: Fate = Some((1, Reason::OverFull));
 
-/// Sees what a check finds in a table with start 0 and these bands, and the fate of every state.
+/// Sees what a check finds in a table with start 0 and these bands, set and loaded, and the fate of every state.
 fn judged(
     rt: &impl Abort,
     bands: &[Given],
@@ -27,6 +27,10 @@ fn judged(
     table.size(fates.len(), 0)?;
     set_all(&mut table, bands)?;
     let start = fates.first().and_then(|fate| fate.map(|(rank, _)| rank));
+    check_finds(rt, &mut table, (fates.len(), found.0, found.1, start))?;
+    fates_are(rt, &table, fates)?;
+    table.size(fates.len(), 0)?;
+    load_all(&mut table, bands)?;
     check_finds(rt, &mut table, (fates.len(), found.0, found.1, start))?;
     fates_are(rt, &table, fates)
 }
@@ -62,7 +66,7 @@ fn on_two<K: RecordNumber>(
     fates_are(rt, table, &[fate, None, None])
 }
 
-/// The same with shares, which add up.
+/// The same with shares, which add up, set and loaded.
 fn judged_on_two(
     rt: &impl Abort,
     to_1: (u32, u32),
@@ -72,7 +76,15 @@ fn judged_on_two(
     let mut band_places = [UNUSED; 8];
     let mut rank_places = [9u16; 4];
     let mut table = Table::open(&mut band_places, &mut rank_places);
-    on_two(rt, &mut table, FULL, to_1, to_2, fate)
+    on_two(rt, &mut table, FULL, to_1, to_2, fate)?;
+    let bands = [
+        (0, 1, to_1.0, to_1.1),
+        (0, 2, to_2.0, to_2.1),
+        (1, 1, FULL, FULL),
+        (2, 2, FULL, FULL),
+    ];
+    let found = if fate.is_some() { (1, 1) } else { (0, 0) };
+    judged(rt, &bands, found, &[fate, None, None])
 }
 
 #[test]
