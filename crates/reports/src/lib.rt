@@ -5,3 +5,5 @@ mod lines;
 pub mod report;
 mod states;
 mod stop;
+#[cfg(test)]
+mod tests;
