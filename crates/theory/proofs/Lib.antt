@@ -2,5 +2,7 @@
 pub mod Below
 pub mod Consistency
 pub mod Ranks
+pub mod Plans
 pub mod Rounds
+pub mod Rows
 pub mod Sameness

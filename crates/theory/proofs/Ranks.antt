@@ -39,10 +39,10 @@ module _ {S : Type 0} (k : Kind S) (m : Model S) where
   rank_bounded t = rank_at_most k m everyone m.states t
 
   -- these ranks tell who stands after each number of rounds
-  abbrev Tells : (ℕ → ℕ) → Type 0
+  abbrev pub Tells : (ℕ → ℕ) → Type 0
   Tells rank = (r t : ℕ) → t < m.states → not_before rank (suc r) t ≡ standing k m everyone r t
 
-  rank_tells : Tells (rank_of k m)
+  pub rank_tells : Tells (rank_of k m)
   rank_tells r t below =
       let n : ℕ = m.states + r in
       let last : finish.rounds ≤ n = omega (arith, (progress_bound k m everyone finish.progress).0) in

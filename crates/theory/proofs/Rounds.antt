@@ -11,7 +11,7 @@ use Rattle.theory.proofs.Consistency.{reason_same}
 
 module _ {S : Type 0} (k : Kind S) (m : Model S) (first : ℕ → Bool) where
   -- who stands after a round stood before it
-  stood_before : (r t : ℕ) → standing k m first (suc r) t ≡ true → standing k m first r t ≡ true
+  pub stood_before : (r t : ℕ) → standing k m first (suc r) t ≡ true → standing k m first r t ≡ true
   unfolding standing
   stood_before r t stands = (and_parts (standing k m first r t) (not (is_some (reason_of k m (standing k m first r) t))) stands).0
 

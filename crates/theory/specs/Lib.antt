@@ -1,4 +1,6 @@
 -- The definitions that contracts cite, here and in the crates above.
 pub mod Consistency
 pub mod Models
+pub mod Plans
 pub mod Rounds
+pub mod Rows
