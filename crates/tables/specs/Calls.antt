@@ -4,6 +4,7 @@ use Rattle.amounts.specs.Kinds.{Kind}
 use Rattle.amounts.specs.declared.bounds.Bounds.{Bounds}
 use Rattle.refusals.specs.declared.Refusal.{Refusal}
 use Rattle.refusals.specs.declared.Refusal.TheVariants.{NoStates, Standing}
+use Rattle.theory.specs.Plans.{TellsPlans}
 use Rattle.theory.specs.Rounds.{Ranks, removed_of, rounds_of}
 use Rattle.theory.specs.declared.reason.Reason.{Reason}
 use Rattle.tables.specs.Held.{key_of, bounds_of, band_in, is_held, both_nothing, model_of}
@@ -92,6 +93,8 @@ pub record Checked {S : Type 0} (k : Kind S) (before after : Table S) (r : Resul
   -- the ranks are those of the rounds, and no others are
   pub ranks : Ranks k (model_in k (left_of before)) (rank_left k (left_of before))
   pub only : (rank : ℕ → ℕ) → Ranks k (model_in k (left_of before)) rank → (t : ℕ) → t < before.states → rank t ≡ rank_left k (left_of before) t
+  -- and they tell how far ahead each state can be planned
+  pub plans : (t : ℕ) → t < before.states → TellsPlans k (model_in k (left_of before)) t (rank_left k (left_of before) t)
   pub refused : before.states ≡ 0 → after ≡ before
   pub sound : Sound k after
 

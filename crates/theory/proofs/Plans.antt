@@ -17,9 +17,9 @@ module _ {S : Type 0} {k : Kind S} (laws : Laws k) where
   -- whether an amount is nothing can be tested
   nothing_or_some : (x : S) → IsNothing k x ⊎ ¬ IsNothing k x
   nothing_or_some x = ⊎_elim
-    (λ (none : k.at_most x k.nothing ≡ true). inl (record { there = record { holds = none }; back = laws.nothing_least x }))
-    (λ (some : k.at_most x k.nothing ≡ false). inr (λ (none : IsNothing k x). false≢true (sym some ∙ none.there.holds)))
-    (cases_Bool (k.at_most x k.nothing))
+      (λ (none : k.at_most x k.nothing ≡ true). inl (record { there = record { holds = none }; back = laws.nothing_least x }))
+      (λ (some : k.at_most x k.nothing ≡ false). inr (λ (none : IsNothing k x). false≢true (sym some ∙ none.there.holds)))
+      (cases_Bool (k.at_most x k.nothing))
 
 -- by its rank v, a state had not fallen before round r + 1
 abbrev unfallen : ℕ → ℕ → Bool
@@ -46,9 +46,9 @@ module _ {S : Type 0} {k : Kind S} (laws : Laws k) (m : Model S) where
   inside_more x y t row more inside = record {
     exact = inside.exact;
     outside = λ u below out. ⊎_elim
-      (λ (in_x : x u ≡ true). absurd (false≢true (sym out ∙ more u in_x)))
-      (λ (out_x : x u ≡ false). inside.outside u below out_x)
-      (cases_Bool (x u));
+        (λ (in_x : x u ≡ true). absurd (false≢true (sym out ∙ more u in_x)))
+        (λ (out_x : x u ≡ false). inside.outside u below out_x)
+        (cases_Bool (x u));
   }
 
   reason_gone : (r t : ℕ) → stands (suc r) t ≡ true → reason_of k m (stands r) t ≡ None
@@ -76,9 +76,9 @@ module _ {S : Type 0} {k : Kind S} (laws : Laws k) (m : Model S) where
       let fits = row_is_consistent laws m (stands r) t plan.row (record {
         exact = plan.exact;
         outside = λ u below out. ⊎_elim
-          (λ (none : IsNothing k (plan.row u)). none)
-          (λ (some : ¬ IsNothing k (plan.row u)). absurd (false≢true (sym out ∙ plan_stands r u (plan.later u below some))))
-          (nothing_or_some laws (plan.row u));
+            (λ (none : IsNothing k (plan.row u)). none)
+            (λ (some : ¬ IsNothing k (plan.row u)). absurd (false≢true (sym out ∙ plan_stands r u (plan.later u below some))))
+            (nothing_or_some laws (plan.row u));
       }) in
       next_stands r t (consistent_stands r t fits) fits
 
@@ -92,9 +92,9 @@ module _ {S : Type 0} {k : Kind S} (laws : Laws k) (m : Model S) where
         row = row;
         exact = inside.exact;
         later = λ u below some. ⊎_elim
-          (λ (stands_u : stands r u ≡ true). stands_plan r u stands_u)
-          (λ (out : stands r u ≡ false). absurd (some (inside.outside u below out)))
-          (cases_Bool (stands r u));
+            (λ (stands_u : stands r u ≡ true). stands_plan r u stands_u)
+            (λ (out : stands r u ≡ false). absurd (some (inside.outside u below out)))
+            (cases_Bool (stands r u));
       }
 
   -- who stands has a plan, and who does not has none

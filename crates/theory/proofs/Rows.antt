@@ -87,11 +87,11 @@ module _ {S : Type 0} {k : Kind S} (laws : Laws k) (low high : ℕ → S) where
       let own : filled k low high (suc n) r n ≡ p.own = rw (eq-eqb n n refl) refl in
       record {
         within = λ u below. ⊎_elim
-          (λ (is : u ≡ n). rw (eq-eqb u n is, is) split.own_within)
-          (λ (ne : u ≡ n → ⊥). rw (ne_eqb u n ne) (rest.within u (omega arith)))
-          (cases_eq u n);
+            (λ (is : u ≡ n). rw (eq-eqb u n is, is) split.own_within)
+            (λ (ne : u ≡ n → ⊥). rw (ne_eqb u n ne) (rest.within u (omega arith)))
+            (cases_eq u n);
         whole = subst (λ (whole : S). Same k whole r) (sym (ap₂ k.total same own))
-          (same_trans laws (same_total laws p.own rest.whole) (same_trans laws (laws.total_comm p.others p.own) split.whole));
+            (same_trans laws (same_total laws p.own rest.whole) (same_trans laws (laws.total_comm p.others p.own) split.whole));
       }
 
 module _ {S : Type 0} {k : Kind S} (laws : Laws k) (m : Model S) (x : ℕ → Bool) (t : ℕ) where
@@ -105,25 +105,25 @@ module _ {S : Type 0} {k : Kind S} (laws : Laws k) (m : Model S) (x : ℕ → Bo
       let low = low_inside k m x t in
       let high = high_inside k m x t in
       let ordered : (u : ℕ) → u < m.states → AtMost k (low u) (high u) =
-        λ u below. ⊎_elim
-          (λ (in_x : x u ≡ true). rw (in_x) (fits.inside u below in_x))
-          (λ (out : x u ≡ false). rw (out) (laws.at_most_refl k.nothing))
-          (cases_Bool (x u)) in
+      λ u below. ⊎_elim
+      (λ (in_x : x u ≡ true). rw (in_x) (fits.inside u below in_x))
+      (λ (out : x u ≡ false). rw (out) (laws.at_most_refl k.nothing))
+      (cases_Bool (x u)) in
       let done = fill laws low high m.states k.full ordered (record { lows = fits.lows; highs = fits.highs; at_most_full = laws.at_most_refl k.full }) in
       let none : (u : ℕ) → u < m.states → x u ≡ false → IsNothing k (row_inside u) =
-        λ u below out. record {
-          there = rw (out) at (done.within u below).below;
-          back = laws.nothing_least (row_inside u);
-        } in
+      λ u below out. record {
+        there = rw (out) at (done.within u below).below;
+        back = laws.nothing_least (row_inside u);
+      } in
       record {
         exact = record {
           within = λ u below. ⊎_elim
-            (λ (in_x : x u ≡ true). rw (in_x) at (done.within u below))
-            (λ (out : x u ≡ false). record {
-              above = laws.at_most_trans (m.band t u).low k.nothing (row_inside u) (fits.outside u below out).there (laws.nothing_least (row_inside u));
-              below = laws.at_most_trans (row_inside u) k.nothing (m.band t u).high (none u below out).there (laws.nothing_least (m.band t u).high);
-            })
-            (cases_Bool (x u));
+              (λ (in_x : x u ≡ true). rw (in_x) at (done.within u below))
+              (λ (out : x u ≡ false). record {
+                above = laws.at_most_trans (m.band t u).low k.nothing (row_inside u) (fits.outside u below out).there (laws.nothing_least (row_inside u));
+                below = laws.at_most_trans (row_inside u) k.nothing (m.band t u).high (none u below out).there (laws.nothing_least (m.band t u).high);
+              })
+              (cases_Bool (x u));
           whole = done.whole;
         };
         outside = none;
@@ -141,14 +141,14 @@ module _ {S : Type 0} {k : Kind S} (laws : Laws k) (m : Model S) (x : ℕ → Bo
         };
         inside = λ u below in_x. laws.at_most_trans (m.band t u).low (row u) (m.band t u).high (within u below).above (within u below).below;
         lows = laws.at_most_trans (total_low k m x t) (total_below k row m.states) k.full
-          (totals_at_most laws low row m.states (λ u below. ⊎_elim
+            (totals_at_most laws low row m.states (λ u below. ⊎_elim
             (λ (in_x : x u ≡ true). rw (in_x) ((within u below).above))
             (λ (out : x u ≡ false). rw (out) (laws.nothing_least (row u)))
             (cases_Bool (x u))))
-          inside.exact.whole.there;
+            inside.exact.whole.there;
         highs = laws.at_most_trans k.full (total_below k row m.states) (total_high k m x t)
-          inside.exact.whole.back
-          (totals_at_most laws row high m.states (λ u below. ⊎_elim
+            inside.exact.whole.back
+            (totals_at_most laws row high m.states (λ u below. ⊎_elim
             (λ (in_x : x u ≡ true). rw (in_x) ((within u below).below))
             (λ (out : x u ≡ false). rw (out) ((inside.outside u below out).there))
             (cases_Bool (x u))));
