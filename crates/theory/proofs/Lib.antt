@@ -1,8 +1,10 @@
 -- The lemmas that the crates above cite.
 pub mod Below
+pub mod Chains
 pub mod Consistency
 pub mod Ranks
 pub mod Plans
 pub mod Rounds
 pub mod Rows
 pub mod Sameness
+pub mod Totals

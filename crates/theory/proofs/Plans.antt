@@ -1,5 +1,5 @@
 -- The states that stand after r rounds are those with a plan of r steps.
-use Rattle.std.proofs.Common.{◌≡◌, ℕ, zero, suc, ◌<◌, Bool, true, false, not, ◌||◌, eqb, leb, is_some, None, sym, refl, ◌∙◌, ◌⊎◌, inl, inr, ⊎_elim, arith}
+use Rattle.std.proofs.Common.{◌≡◌, ℕ, zero, suc, ◌<◌, Bool, true, false, not, ◌||◌, eqb, leb, is_some, None, sym, refl, ◌∙◌, ⊎_elim, arith}
 use Rattle.std.proofs.lemmas.Bool.{and_parts, cases_Bool, false≢true, false_from_ne_true}
 use Rattle.std.proofs.lemmas.Bool.Decides.{nat_tests}
 use Rattle.amounts.specs.Kinds.{Kind, Laws, IsNothing}
@@ -8,18 +8,11 @@ use Rattle.theory.specs.Models.{Model}
 use Rattle.theory.specs.Plans.{Plan, TellsPlans}
 use Rattle.theory.specs.Rounds.{everyone, standing, not_before, rank_of}
 use Rattle.theory.specs.Rows.{RowInside}
-use Rattle.theory.proofs.Consistency.{consistent_from_none, none_from_consistent}
+use Rattle.theory.proofs.Consistency.{consistent_from_none}
 use Rattle.theory.proofs.Ranks.{rank_tells}
-use Rattle.theory.proofs.Rounds.{stood_before}
+use Rattle.theory.proofs.Rounds.{stood_before, next_stands}
+use Rattle.theory.proofs.Sameness.{nothing_or_some}
 use Rattle.theory.proofs.Rows.{row_inside, consistent_has_row, row_is_consistent}
-
-module _ {S : Type 0} {k : Kind S} (laws : Laws k) where
-  -- whether an amount is nothing can be tested
-  nothing_or_some : (x : S) → IsNothing k x ⊎ ¬ IsNothing k x
-  nothing_or_some x = ⊎_elim
-      (λ (none : k.at_most x k.nothing ≡ true). inl (record { there = record { holds = none }; back = laws.nothing_least x }))
-      (λ (some : k.at_most x k.nothing ≡ false). inr (λ (none : IsNothing k x). false≢true (sym some ∙ none.there.holds)))
-      (cases_Bool (k.at_most x k.nothing))
 
 -- by its rank v, a state had not fallen before round r + 1
 abbrev unfallen : ℕ → ℕ → Bool
@@ -55,11 +48,6 @@ module _ {S : Type 0} {k : Kind S} (laws : Laws k) (m : Model S) where
   unfolding standing
   reason_gone r t stood = let parts = and_parts (stands r t) (not (is_some (reason_of k m (stands r) t))) stood in grind (arith, nat_tests)
 
-  -- who is consistent with those that stand stands one round more
-  next_stands : (r t : ℕ) → stands r t ≡ true → Consistent k m (stands r) t → stands (suc r) t ≡ true
-  unfolding standing
-  next_stands r t stood fits = let none = none_from_consistent k m (stands r) t fits in grind (arith, nat_tests)
-
   consistent_stands : (r t : ℕ) → Consistent k m (stands r) t → stands r t ≡ true
   unfolding standing
   consistent_stands zero t fits = refl
@@ -67,7 +55,7 @@ module _ {S : Type 0} {k : Kind S} (laws : Laws k) (m : Model S) where
       let row = row_inside laws m (stands (suc r)) t in
       let inside = inside_more (stands (suc r)) (stands r) t row (stood_before k m everyone r) (consistent_has_row laws m (stands (suc r)) t fits) in
       let before = row_is_consistent laws m (stands r) t row inside in
-      next_stands r t (consistent_stands r t before) before
+      next_stands k m everyone r t (consistent_stands r t before) before
 
   pub plan_stands : (r t : ℕ) → Plan k m r t → stands r t ≡ true
   unfolding Plan standing
@@ -80,7 +68,7 @@ module _ {S : Type 0} {k : Kind S} (laws : Laws k) (m : Model S) where
             (λ (some : ¬ IsNothing k (plan.row u)). absurd (false≢true (sym out ∙ plan_stands r u (plan.later u below some))))
             (nothing_or_some laws (plan.row u));
       }) in
-      next_stands r t (consistent_stands r t fits) fits
+      next_stands k m everyone r t (consistent_stands r t fits) fits
 
   pub stands_plan : (r t : ℕ) → stands r t ≡ true → Plan k m r t
   unfolding Plan standing

@@ -3,17 +3,22 @@ use Rattle.std.proofs.Common.{◌≡◌, ℕ, zero, suc, ◌+◌, ◌<◌, ◌�
 use Rattle.std.proofs.lemmas.Bool.{and_parts, cond-false, cond-true}
 use Rattle.std.proofs.lemmas.Bool.Decides.{nat_tests}
 use Rattle.amounts.specs.Kinds.{Kind}
-use Rattle.theory.specs.Consistency.{reason_of}
+use Rattle.theory.specs.Consistency.{Consistent, reason_of}
 use Rattle.theory.specs.Models.{Model, count_below}
 use Rattle.theory.specs.Rounds.{everyone, standing, falls_after, not_before, rank_within, rank_from, rank_of, removed_of, rounds_of}
 use Rattle.theory.proofs.Below.{count_at_most, count_none, count_parts, count_same, count_some, count_zero, highest_is}
-use Rattle.theory.proofs.Consistency.{reason_same}
+use Rattle.theory.proofs.Consistency.{reason_same, none_from_consistent}
 
 module _ {S : Type 0} (k : Kind S) (m : Model S) (first : ℕ → Bool) where
   -- who stands after a round stood before it
   pub stood_before : (r t : ℕ) → standing k m first (suc r) t ≡ true → standing k m first r t ≡ true
   unfolding standing
   stood_before r t stands = (and_parts (standing k m first r t) (not (is_some (reason_of k m (standing k m first r) t))) stands).0
+
+  -- who is consistent with those that stand stands one round more
+  pub next_stands : (r t : ℕ) → standing k m first r t ≡ true → Consistent k m (standing k m first r) t → standing k m first (suc r) t ≡ true
+  unfolding standing
+  next_stands r t stood fits = let none = none_from_consistent k m (standing k m first r) t fits in grind (arith, nat_tests)
 
   pub rank_at_most : (r t : ℕ) → rank_within k m first r t ≤ r
   unfolding rank_within

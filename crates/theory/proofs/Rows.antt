@@ -12,7 +12,7 @@ use Rattle.theory.proofs.Sameness.{same_trans, same_total}
 
 module _ {S : Type 0} {k : Kind S} (laws : Laws k) where
   -- the total respects at most on both sides
-  total_both : {x y v w : S} → AtMost k x y → AtMost k v w → AtMost k (k.total x v) (k.total y w)
+  pub total_both : {x y v w : S} → AtMost k x y → AtMost k v w → AtMost k (k.total x v) (k.total y w)
   total_both {x} {y} {v} {w} p q =
       let left = laws.total_mono x y v p in
       let right = laws.total_mono v w y q in

@@ -1,7 +1,8 @@
 -- The same amount, up to which the laws hold: totals and tests respect it.
-use Rattle.std.proofs.Common.{◌≡◌, true, arith}
+use Rattle.std.proofs.Common.{◌≡◌, true, false, sym, ◌∙◌, ◌⊎◌, inl, inr, ⊎_elim, arith}
+use Rattle.std.proofs.lemmas.Bool.{cases_Bool, false≢true}
 use Rattle.std.proofs.lemmas.Bool.Decides.{nat_tests}
-use Rattle.amounts.specs.Kinds.{Kind, Laws, AtMost, Same}
+use Rattle.amounts.specs.Kinds.{Kind, Laws, AtMost, Same, IsNothing}
 
 module _ {S : Type 0} {k : Kind S} (laws : Laws k) where
   pub same_refl : (x : S) → Same k x x
@@ -31,3 +32,10 @@ module _ {S : Type 0} {k : Kind S} (laws : Laws k) where
 
   pub test_same_right : {y w : S} (x : S) → Same k y w → k.at_most x y ≡ k.at_most x w
   test_same_right x p = tests_same (laws.at_most_refl x) (laws.at_most_refl x) p.there p.back
+
+  -- whether an amount is nothing can be tested
+  pub nothing_or_some : (x : S) → IsNothing k x ⊎ ¬ IsNothing k x
+  nothing_or_some x = ⊎_elim
+      (λ (none : k.at_most x k.nothing ≡ true). inl (record { there = record { holds = none }; back = laws.nothing_least x }))
+      (λ (some : k.at_most x k.nothing ≡ false). inr (λ (none : IsNothing k x). false≢true (sym some ∙ none.there.holds)))
+      (cases_Bool (k.at_most x k.nothing))

@@ -1,4 +1,5 @@
 -- The definitions that contracts cite, here and in the crates above.
+pub mod Chains
 pub mod Consistency
 pub mod Models
 pub mod Plans
