@@ -3,6 +3,7 @@ pub mod Below
 pub mod Chains
 pub mod Consistency
 pub mod Ranks
+pub mod Listed
 pub mod Plans
 pub mod Rounds
 pub mod Rows
