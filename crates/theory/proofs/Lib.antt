@@ -8,4 +8,5 @@ pub mod Plans
 pub mod Rounds
 pub mod Rows
 pub mod Sameness
+pub mod Standing
 pub mod Totals

@@ -1,5 +1,5 @@
 -- Totals of totals: parts may be added in any order, and grouped by the state that they stand for.
-use Rattle.std.proofs.Common.{◌≡◌, ℕ, zero, suc, ◌<◌, cond, eqb, ⊎_elim, arith}
+use Rattle.std.proofs.Common.{◌≡◌, ℕ, zero, suc, ◌<◌, cond, eqb, sym, refl, subst, ⊎_elim, arith}
 use Rattle.std.proofs.lemmas.Bool.{cases_eq, eq-eqb, ne_eqb}
 use Rattle.amounts.specs.Kinds.{Kind, Laws, Same, IsNothing}
 use Rattle.theory.specs.Models.{total_below}
@@ -40,20 +40,26 @@ module _ {S : Type 0} {k : Kind S} (laws : Laws k) where
       same_trans laws (totals_add (λ u. total_below k (a u) n) (λ u. a u n) m)
       (same_total laws (total_below k (λ u. a u n) m) (totals_swap a m n))
 
+  -- where all but one are nothing, that one is the total
+  pub total_but_one : (f : ℕ → S) (s n : ℕ) → s < n → ((u : ℕ) → u < n → (s ≡ u → ⊥) → IsNothing k (f u)) → Same k (total_below k f n) (f s)
+  unfolding total_below
+  total_but_one f s zero below none = absurd (omega arith)
+  total_but_one f s (suc n) below none = ⊎_elim
+    (λ (is : s ≡ n). same_trans laws (same_both
+      (totals_nothing f n (λ u less. none u (omega arith) (λ same. omega (arith, same, is, less))))
+      (subst (λ (v : ℕ). Same k (f n) (f v)) (sym is) (same_refl laws (f n))))
+      (laws.total_nothing (f s)))
+    (λ (ne : s ≡ n → ⊥). same_trans laws (same_both
+      (total_but_one f s n (omega (arith, below, ne)) (λ u less. none u (omega arith)))
+      (none n (omega arith) ne))
+      (total_nothing_right laws (f s)))
+    (cases_eq s n)
+
   -- one amount among nothings
   pub total_one : (x : S) (s n : ℕ) → s < n → Same k (total_below k (λ u. cond (eqb s u) x k.nothing) n) x
-  unfolding total_below
-  total_one x s zero below = absurd (omega arith)
-  total_one x s (suc n) below = ⊎_elim
-    (λ (is : s ≡ n). same_trans laws (same_both
-      (totals_nothing (λ u. cond (eqb s u) x k.nothing) n (λ u less. rw (ne_eqb s u (omega (arith, is))) (same_refl laws k.nothing)))
-      (rw (eq-eqb s n is) (same_refl laws x)))
-      (laws.total_nothing x))
-    (λ (ne : s ≡ n → ⊥). same_trans laws (same_both
-      (total_one x s n (omega arith))
-      (rw (ne_eqb s n ne) (same_refl laws k.nothing)))
-      (total_nothing_right laws x))
-    (cases_eq s n)
+  total_one x s n below = same_trans laws
+    (total_but_one (λ u. cond (eqb s u) x k.nothing) s n below (λ u less ne. rw (ne_eqb s u ne) (same_refl laws k.nothing)))
+    (rw (eq-eqb s s refl) (same_refl laws x))
 
   -- the total of what stands for each u, over all u, is the total
   pub totals_grouped : (f : ℕ → S) (s : ℕ → ℕ) (n m : ℕ) → ((d : ℕ) → d < n → s d < m) → Same k (total_below k (λ u. total_below k (λ d. cond (eqb (s d) u) (f d) k.nothing) n) m) (total_below k f n)
