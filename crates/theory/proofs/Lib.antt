@@ -10,3 +10,4 @@ pub mod Rows
 pub mod Sameness
 pub mod Standing
 pub mod Totals
+pub mod Usable

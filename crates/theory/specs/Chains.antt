@@ -30,3 +30,8 @@ EntersFrom k chain goal (suc steps) c = (d : ℕ) × (d < chain.states) × (¬ I
 -- the chain enters a goal in so many steps from its start
 abbrev pub Enters : {S : Type 0} (k : Kind S) → Chain k → (ℕ → Bool) → ℕ → Type 0
 Enters k chain goal steps = EntersFrom k chain goal steps chain.start
+
+-- a state stands exactly where some chain keeps the bands from it
+pub record TellsChains {S : Type 0} (k : Kind S) (m : Model S) (t rank : ℕ) : Type 0 where
+  pub stood : rank ≡ 0 → (chain : Chain k) × Implements k m t chain
+  pub stood_only : (chain : Chain k) → Implements k m t chain → rank ≡ 0
