@@ -2,8 +2,9 @@
 use Rattle.std.proofs.Common.{◌≡◌, ℕ, ◌<◌, min, true, leb, length, None, Ok, sym, ap, ◌∙◌, subst, arith}
 use Rattle.std.proofs.lemmas.Bool.{leb-false, ne_eqb}
 use Rattle.amounts.specs.Kinds.{Kind, Laws}
-use Rattle.theory.proofs.Plans as theory_plans
+use Rattle.theory.proofs.Plans.{rank_tells_plans}
 use Rattle.theory.proofs.Ranks as theory
+use Rattle.theory.proofs.Usable.{rank_tells_chains}
 use Rattle.tables.specs.Calls.{left_of, Sound, Checked}
 use Rattle.tables.specs.Judging.{Ranked}
 use Rattle.tables.specs.Left.{Left, Proper, judged, no_states, no_such_state, no_question, model_in, rank_left, as_rank}
@@ -45,7 +46,8 @@ module _ {S : Type 0} {k : Kind S} (laws : Laws k) (t : Table S) (sound : Sound 
       left = rw (ne_eqb t.states 0 (λ none. omega arith)) left_after;
       ranks = theory.ranks k (model_in k (left_of t)) laws;
       only = λ rank given u below. theory.only k (model_in k (left_of t)) laws rank given u below;
-      plans = λ u below. theory_plans.rank_tells_plans laws (model_in k (left_of t)) u below;
+      plans = λ u below. rank_tells_plans laws (model_in k (left_of t)) u below;
+      chains = λ u below. rank_tells_chains laws (model_in k (left_of t)) u below;
       refused = λ none. absurd (omega arith);
       sound = record {
         proper = subst (Proper k) (sym left_after) proper_after;

@@ -4,6 +4,7 @@ use Rattle.amounts.specs.Kinds.{Kind}
 use Rattle.amounts.specs.declared.bounds.Bounds.{Bounds}
 use Rattle.refusals.specs.declared.Refusal.{Refusal}
 use Rattle.refusals.specs.declared.Refusal.TheVariants.{NoStates, Standing}
+use Rattle.theory.specs.Chains.{TellsChains}
 use Rattle.theory.specs.Plans.{TellsPlans}
 use Rattle.theory.specs.Rounds.{Ranks, removed_of, rounds_of}
 use Rattle.theory.specs.declared.reason.Reason.{Reason}
@@ -95,6 +96,8 @@ pub record Checked {S : Type 0} (k : Kind S) (before after : Table S) (r : Resul
   pub only : (rank : ℕ → ℕ) → Ranks k (model_in k (left_of before)) rank → (t : ℕ) → t < before.states → rank t ≡ rank_left k (left_of before) t
   -- and they tell how far ahead each state can be planned
   pub plans : (t : ℕ) → t < before.states → TellsPlans k (model_in k (left_of before)) t (rank_left k (left_of before) t)
+  -- and which states a chain can use
+  pub chains : (t : ℕ) → t < before.states → TellsChains k (model_in k (left_of before)) t (rank_left k (left_of before) t)
   pub refused : before.states ≡ 0 → after ≡ before
   pub sound : Sound k after
 

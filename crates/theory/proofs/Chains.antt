@@ -30,11 +30,11 @@ module _ {S : Type 0} {k : Kind S} (laws : Laws k) (m : Model S) (chain : Chain 
         let fits = row_is_consistent laws m (standing k m first r) (chain.stands_for c) (given_to k chain c) (record {
           exact = given_is_exact c below;
           outside = λ u less out. totals_nothing laws (λ d. cond (eqb (chain.stands_for d) u) (chain.row c d) k.nothing) chain.states (λ d less_d. ⊎_elim
-            (λ (is : chain.stands_for d ≡ u). ⊎_elim
+              (λ (is : chain.stands_for d ≡ u). ⊎_elim
               (λ (none : IsNothing k (chain.row c d)). rw (eq-eqb (chain.stands_for d) u is) none)
               (λ (some : ¬ IsNothing k (chain.row c d)). absurd (false≢true (sym out ∙ ap (standing k m first r) (sym is) ∙ stood d less_d (closed c d below is_member less_d some))))
               (nothing_or_some laws (chain.row c d)))
-            (λ (ne : chain.stands_for d ≡ u → ⊥). rw (ne_eqb (chain.stands_for d) u ne) (same_refl laws k.nothing))
-            (cases_eq (chain.stands_for d) u));
+              (λ (ne : chain.stands_for d ≡ u → ⊥). rw (ne_eqb (chain.stands_for d) u ne) (same_refl laws k.nothing))
+              (cases_eq (chain.stands_for d) u));
         }) in
         next_stands k m first r (chain.stands_for c) (stood c below is_member) fits

@@ -31,28 +31,28 @@ module _ (test : ℕ → Bool) (n : ℕ) (l : Listed test n) where
         size = suc l.size;
         at = at;
         inside = λ d below. ⊎_elim
-          (λ (is : d ≡ l.size). omega (arith, at_end l.size l.at n d is))
-          (λ (ne : d ≡ l.size → ⊥). let less : d < l.size = ne_less d l.size below ne in omega (arith, l.inside d less, at_before l.size l.at n d ne))
-          (cases_eq d l.size);
+            (λ (is : d ≡ l.size). omega (arith, at_end l.size l.at n d is))
+            (λ (ne : d ≡ l.size → ⊥). let less : d < l.size = ne_less d l.size below ne in omega (arith, l.inside d less, at_before l.size l.at n d ne))
+            (cases_eq d l.size);
         passes = λ d below. ⊎_elim
-          (λ (is : d ≡ l.size). ap test (at_end l.size l.at n d is) ∙ passes)
-          (λ (ne : d ≡ l.size → ⊥). ap test (at_before l.size l.at n d ne) ∙ l.passes d (ne_less d l.size below ne))
-          (cases_eq d l.size);
+            (λ (is : d ≡ l.size). ap test (at_end l.size l.at n d is) ∙ passes)
+            (λ (ne : d ≡ l.size → ⊥). ap test (at_before l.size l.at n d ne) ∙ l.passes d (ne_less d l.size below ne))
+            (cases_eq d l.size);
         once = λ d e below less same. ⊎_elim
-          (λ (is : d ≡ l.size). ⊎_elim
+            (λ (is : d ≡ l.size). ⊎_elim
             (λ (is_e : e ≡ l.size). is ∙ sym is_e)
             (λ (ne_e : e ≡ l.size → ⊥). absurd (omega (arith, l.inside e (ne_less e l.size less ne_e), at_end l.size l.at n d is, at_before l.size l.at n e ne_e, same)))
             (cases_eq e l.size))
-          (λ (ne : d ≡ l.size → ⊥). ⊎_elim
+            (λ (ne : d ≡ l.size → ⊥). ⊎_elim
             (λ (is_e : e ≡ l.size). absurd (omega (arith, l.inside d (ne_less d l.size below ne), at_before l.size l.at n d ne, at_end l.size l.at n e is_e, same)))
             (λ (ne_e : e ≡ l.size → ⊥). l.once d e (ne_less d l.size below ne) (ne_less e l.size less ne_e) (sym (at_before l.size l.at n d ne) ∙ same ∙ at_before l.size l.at n e ne_e))
             (cases_eq e l.size))
-          (cases_eq d l.size);
+            (cases_eq d l.size);
         found = λ u below passes_u. ⊎_elim
-          (λ (is : u ≡ n). (l.size, omega arith, at_end l.size l.at n l.size refl ∙ sym is))
-          (λ (ne : u ≡ n → ⊥). let there = l.found u (ne_less u n below ne) passes_u in
+            (λ (is : u ≡ n). (l.size, omega arith, at_end l.size l.at n l.size refl ∙ sym is))
+            (λ (ne : u ≡ n → ⊥). let there = l.found u (ne_less u n below ne) passes_u in
             (there.0, omega (arith, there.1), at_before l.size l.at n there.0 (λ is. omega (arith, is, there.1)) ∙ there.2))
-          (cases_eq u n);
+            (cases_eq u n);
       }
 
   none_more : test n ≡ false → Listed test (suc n)
@@ -63,9 +63,9 @@ module _ (test : ℕ → Bool) (n : ℕ) (l : Listed test n) where
     passes = l.passes;
     once = l.once;
     found = λ u below passes_u. ⊎_elim
-      (λ (is : u ≡ n). absurd (false≢true (sym fails ∙ ap test (sym is) ∙ passes_u)))
-      (λ (ne : u ≡ n → ⊥). l.found u (ne_less u n below ne) passes_u)
-      (cases_eq u n);
+        (λ (is : u ≡ n). absurd (false≢true (sym fails ∙ ap test (sym is) ∙ passes_u)))
+        (λ (ne : u ≡ n → ⊥). l.found u (ne_less u n below ne) passes_u)
+        (cases_eq u n);
   }
 
 pub list_below : (test : ℕ → Bool) (n : ℕ) → Listed test n

@@ -33,17 +33,17 @@ module _ {S : Type 0} {k : Kind S} (laws : Laws k) (m : Model S) (x : ℕ → Bo
       subst (λ (v : S). Same k (total_below k (given c u) members.size) v)
       (rw (eq-eqb (members.at d) u is) (ap (row (members.at c)) is))
       (total_but_one laws (given c u) d members.size below (λ e less ne.
-        rw (ne_eqb (members.at e) u (λ same. ne (members.once d e below less (is ∙ sym same)))) (same_refl laws k.nothing)))
+      rw (ne_eqb (members.at e) u (λ same. ne (members.once d e below less (is ∙ sym same)))) (same_refl laws k.nothing)))
 
   given_none : (c u : ℕ) → x u ≡ false → IsNothing k (total_below k (given c u) members.size)
   given_none c u out = totals_nothing laws (given c u) members.size (λ d below.
-    rw (ne_eqb (members.at d) u (λ same. false≢true (sym out ∙ ap x (sym same) ∙ members.passes d below))) (same_refl laws k.nothing))
+      rw (ne_eqb (members.at d) u (λ same. false≢true (sym out ∙ ap x (sym same) ∙ members.passes d below))) (same_refl laws k.nothing))
 
   given_is : (c u : ℕ) → c < members.size → u < m.states → Same k (total_below k (given c u) members.size) (row (members.at c) u)
   given_is c u below less = ⊎_elim
-    (λ (in_x : x u ≡ true). let there = members.found u less in_x in given_one c u there.0 there.1 there.2)
-    (λ (out : x u ≡ false). same_trans laws (given_none c u out) (same_sym laws ((row_at c below).outside u less out)))
-    (cases_Bool (x u))
+      (λ (in_x : x u ≡ true). let there = members.found u less in_x in given_one c u there.0 there.1 there.2)
+      (λ (out : x u ≡ false). same_trans laws (given_none c u out) (same_sym laws ((row_at c below).outside u less out)))
+      (cases_Bool (x u))
 
   module _ (t : ℕ) (below : t < m.states) (is_member : x t ≡ true) where
     pub member_chain : Chain k
@@ -53,9 +53,9 @@ module _ {S : Type 0} {k : Kind S} (laws : Laws k) (m : Model S) (x : ℕ → Bo
       starts = (members.found t below is_member).1;
       row = λ c d. row (members.at c) (members.at d);
       whole = λ c less.
-        same_trans laws (same_sym laws (totals_grouped laws (λ d. row (members.at c) (members.at d)) members.at members.size m.states members.inside))
-        (same_trans laws (totals_same laws (λ u. total_below k (given c u) members.size) (row (members.at c)) m.states (λ u less_u. given_is c u less less_u))
-        (row_at c less).exact.whole);
+          same_trans laws (same_sym laws (totals_grouped laws (λ d. row (members.at c) (members.at d)) members.at members.size m.states members.inside))
+          (same_trans laws (totals_same laws (λ u. total_below k (given c u) members.size) (row (members.at c)) m.states (λ u less_u. given_is c u less less_u))
+          (row_at c less).exact.whole);
       stands_for = members.at;
     }
 

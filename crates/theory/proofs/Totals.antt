@@ -45,21 +45,21 @@ module _ {S : Type 0} {k : Kind S} (laws : Laws k) where
   unfolding total_below
   total_but_one f s zero below none = absurd (omega arith)
   total_but_one f s (suc n) below none = ⊎_elim
-    (λ (is : s ≡ n). same_trans laws (same_both
+      (λ (is : s ≡ n). same_trans laws (same_both
       (totals_nothing f n (λ u less. none u (omega arith) (λ same. omega (arith, same, is, less))))
       (subst (λ (v : ℕ). Same k (f n) (f v)) (sym is) (same_refl laws (f n))))
       (laws.total_nothing (f s)))
-    (λ (ne : s ≡ n → ⊥). same_trans laws (same_both
+      (λ (ne : s ≡ n → ⊥). same_trans laws (same_both
       (total_but_one f s n (omega (arith, below, ne)) (λ u less. none u (omega arith)))
       (none n (omega arith) ne))
       (total_nothing_right laws (f s)))
-    (cases_eq s n)
+      (cases_eq s n)
 
   -- one amount among nothings
   pub total_one : (x : S) (s n : ℕ) → s < n → Same k (total_below k (λ u. cond (eqb s u) x k.nothing) n) x
   total_one x s n below = same_trans laws
-    (total_but_one (λ u. cond (eqb s u) x k.nothing) s n below (λ u less ne. rw (ne_eqb s u ne) (same_refl laws k.nothing)))
-    (rw (eq-eqb s s refl) (same_refl laws x))
+      (total_but_one (λ u. cond (eqb s u) x k.nothing) s n below (λ u less ne. rw (ne_eqb s u ne) (same_refl laws k.nothing)))
+      (rw (eq-eqb s s refl) (same_refl laws x))
 
   -- the total of what stands for each u, over all u, is the total
   pub totals_grouped : (f : ℕ → S) (s : ℕ → ℕ) (n m : ℕ) → ((d : ℕ) → d < n → s d < m) → Same k (total_below k (λ u. total_below k (λ d. cond (eqb (s d) u) (f d) k.nothing) n) m) (total_below k f n)
