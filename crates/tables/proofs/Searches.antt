@@ -1,30 +1,15 @@
 -- What the library's searches tell of bands in ascending order.
-use Rattle.std.proofs.Common.{◌≡◌, ℕ, ◌+◌, ◌<◌, ◌≤◌, true, false, ltb, List, length, get_or, Ok, Err, Result, Ordering, Less, Equal, Greater, sym, ◌∙◌, ⊎_elim, arith}
+use Rattle.std.proofs.Common.{◌≡◌, ℕ, ◌+◌, ◌<◌, ◌≤◌, true, false, ltb, List, length, get_or, Ok, Err, Result, Ordering, Less, Equal, Greater, sym, ⊎_elim, arith}
 use Rattle.std.proofs.ByRecursion.{All-get_or}
 use Rattle.std.proofs.lemmas.Bool.{cases_eq, ltb-true, ltb-false}
-use Rattle.std.proofs.lemmas.Cmp.{nat_cmp_total, ranked, on_total, then_total}
+use Rattle.std.proofs.lemmas.Cmp.{nat_cmp_total, ranked}
 use Rattle.std.proofs.lemmas.List.Sorted.{IsPartitionedBy-ltb, searchable_from_sorted}
-use Rattle.std.specs.Cmp.{nat_cmp_is, ranks, IsTotalOrder}
+use Rattle.std.specs.Cmp.{nat_cmp_is}
 use Rattle.std.specs.List.Sorted.{IsBinarySearchResult, IsNonDecreasingBy, IsPartitionPoint, IsPartitionedBy, IsSearchInRange}
-use Rattle.std.specs.Ordering.{MatchOrdering, nat_cmp, ordering_index, ordering_then}
+use Rattle.std.specs.Ordering.{nat_cmp, ordering_index}
 use Rattle.tables.specs.Held.{Ascending, Found, HasSmallTargets, Position, key_of, pair_of}
 use Rattle.tables.specs.declared.band.Band.{Band}
 use Rattle.tables.proofs.Orders.{ascending_places}
-
--- pairs are compared by their sources, then their targets, and so are their numbers
-abbrev pub pair_cmp : ℕ × ℕ → ℕ × ℕ → Ordering
-pair_cmp p q = ordering_then (nat_cmp p.0 q.0) (nat_cmp p.1 q.1)
-
-module _ (s t s' t' : ℕ) (fits : t < 65_536) (fits' : t' < 65_536) where
-  compared : (o p : Ordering) → MatchOrdering o (s < s') (s ≡ s') (s' < s) → MatchOrdering p (t < t') (t ≡ t') (t' < t) → MatchOrdering (ordering_then o p) (pair_of s t < pair_of s' t') (pair_of s t ≡ pair_of s' t') (pair_of s' t' < pair_of s t)
-  compared Less p first second = omega arith
-  compared Greater p first second = omega arith
-  compared Equal Less first second = omega arith
-  compared Equal Equal first second = omega arith
-  compared Equal Greater first second = omega arith
-
-  as_numbers : pair_cmp (s, t) (s', t') ≡ nat_cmp (pair_of s t) (pair_of s' t')
-  as_numbers = nat_cmp_is _ _ (pair_cmp (s, t) (s', t')) (compared (nat_cmp s s') (nat_cmp t t') (ranks s s') (ranks t t'))
 
 module _ {S : Type 0} (held : List (Band S)) (order : Ascending held) (small : HasSmallTargets held) where
   fits : (i : ℕ) (d : Band S) → i < length held → (get_or held i d).target < 65_536
@@ -50,46 +35,38 @@ module _ {S : Type 0} (held : List (Band S)) (order : Ascending held) (small : H
       above = λ i d from less. omega (arith, ltb-false (get_or held i d).source s (parts.1 i d from less));
     }
 
-  module _ (b : Band S) (b_fits : b.target < 65_536) where
-    abbrev order_of : Band S → Ordering
-    order_of c = pair_cmp (c.source, c.target) (b.source, b.target)
+module _ {S : Type 0} (held : List (Band S)) (order : Ascending held) (b : Band S) where
+  abbrev order_of : Band S → Ordering
+  order_of c = nat_cmp (key_of c) (key_of b)
 
-    numbers : (i : ℕ) (d : Band S) → i < length held → order_of (get_or held i d) ≡ nat_cmp (key_of (get_or held i d)) (key_of b)
-    numbers i d within = as_numbers _ _ _ _ (fits i d within) b_fits
+  searchable : IsNonDecreasingBy (λ c. ordering_index (order_of c)) held
+  searchable =
+      searchable_from_sorted nat_cmp_total (λ (c : Band S). key_of c) held (key_of b) (λ i d from less.
+      let above : Greater ≡ nat_cmp (key_of (get_or held (i + 1) d)) (key_of (get_or held i d)) = nat_cmp_is _ _ Greater (ascending_places held order i (i + 1) d (omega arith) less) in
+      rw (← above))
 
-    total : IsTotalOrder pair_cmp
-    total = then_total (on_total (λ (p : ℕ × ℕ). p.0) nat_cmp_total) (on_total (λ (p : ℕ × ℕ). p.1) nat_cmp_total)
-
-    searchable : IsNonDecreasingBy (λ c. ordering_index (order_of c)) held
-    searchable =
-        searchable_from_sorted total (λ (c : Band S). (c.source, c.target)) held (b.source, b.target) (λ i d from less.
-        let above : Greater ≡ nat_cmp (key_of (get_or held (i + 1) d)) (key_of (get_or held i d)) = nat_cmp_is _ _ Greater (ascending_places held order i (i + 1) d (omega arith) less) in
-        let later : Band S = get_or held (i + 1) d in
-        let first : Band S = get_or held i d in
-        rw (as_numbers later.source later.target first.source first.target (fits (i + 1) d less) (fits i d (omega arith)), ← above))
-
-    pub found : (r : Result ℕ ℕ) → IsSearchInRange r (length held) → IsBinarySearchResult order_of held r → Found (key_of b) held r
-    found (Ok p) within equal =
-        let here : (d : Band S) → key_of (get_or held p d) ≡ key_of b = λ d. ranked (key_of (get_or held p d)) (key_of b) Equal (sym (equal d) ∙ numbers p d within) in (
-          record {
-            within = omega arith;
-            below = λ i d less. omega (arith, here d, ascending_places held order i p d less within);
-            above = λ i d from less.
-                ⊎_elim
-                (λ (same : i ≡ p). rw same (omega (arith, here d)))
-                (λ (other : i ≡ p → ⊥). omega (arith, here d, ascending_places held order p i d (omega arith) less))
-                (cases_eq i p);
-          },
-          within,
-          here,
-        )
-    found (Err p) within none =
-        let parts = none searchable in
-        let above : (i : ℕ) (d : Band S) → p ≤ i → i < length held → key_of b < key_of (get_or held i d) = λ i d from less. ranked (key_of (get_or held i d)) (key_of b) Greater (sym (parts.1 i d from less) ∙ numbers i d less) in (
-          record {
-            within = within;
-            below = λ i d less. ranked (key_of (get_or held i d)) (key_of b) Less (sym (parts.0 i d (omega arith) less) ∙ numbers i d (omega arith));
-            above = λ i d from less. omega (arith, above i d from less);
-          },
-          λ d less same. omega (arith, above p d (omega arith) less),
-        )
+  pub found : (r : Result ℕ ℕ) → IsSearchInRange r (length held) → IsBinarySearchResult order_of held r → Found (key_of b) held r
+  found (Ok p) within equal =
+      let here : (d : Band S) → key_of (get_or held p d) ≡ key_of b = λ d. ranked (key_of (get_or held p d)) (key_of b) Equal (sym (equal d)) in (
+        record {
+          within = omega arith;
+          below = λ i d less. omega (arith, here d, ascending_places held order i p d less within);
+          above = λ i d from less.
+              ⊎_elim
+              (λ (same : i ≡ p). rw same (omega (arith, here d)))
+              (λ (other : i ≡ p → ⊥). omega (arith, here d, ascending_places held order p i d (omega arith) less))
+              (cases_eq i p);
+        },
+        within,
+        here,
+      )
+  found (Err p) within none =
+      let parts = none searchable in
+      let above : (i : ℕ) (d : Band S) → p ≤ i → i < length held → key_of b < key_of (get_or held i d) = λ i d from less. ranked (key_of (get_or held i d)) (key_of b) Greater (sym (parts.1 i d from less)) in (
+        record {
+          within = within;
+          below = λ i d less. ranked (key_of (get_or held i d)) (key_of b) Less (sym (parts.0 i d (omega arith) less));
+          above = λ i d from less. omega (arith, above i d from less);
+        },
+        λ d less same. omega (arith, above p d (omega arith) less),
+      )

