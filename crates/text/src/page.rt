@@ -4,7 +4,7 @@ ghost use Rattle.text.specs.Pages.{HasRoom, PutOn};
 ghost use Rattle.text.specs.Pieces.{bytes_of, printed};
 ghost use Rattle.text.specs.Puts.{end_of, hexadecimal};
 
-use crate::hex::{digits, hex_len};
+use crate::hex::{hex_len, spell};
 use crate::piece::{Piece, pieces_len};
 use crate::room::TooShort;
 use itoa::Buffer;
@@ -46,19 +46,9 @@ impl<'a> Page<'a> {
     pub fn put_hex(&mut self, bytes: &[u8]) -> Result<(), TooShort>
         ensures { PutOn self.old (hexadecimal bytes.now) self.new result }
     {
-        // All the room is looked for first, so that a refusal leaves the page as it was.
-        self.end_of(hex_len(bytes))?;
-        self.put_digits(bytes)
-    }
-
-    // As `put_each` does of pieces: one function over both would take the put as a closure, and its contract with it.
-    fn put_digits(&mut self, bytes: &[u8]) -> Result<(), TooShort>
-        requires { HasRoom self.old (length (hexadecimal bytes.now)) }
-        ensures { PutOn self.old (hexadecimal bytes.now) self.new result }
-    {
-        for byte in bytes {
-            self.put_word(&digits(*byte))?;
-        }
+        let after = self.end_of(hex_len(bytes))?;
+        spell(bytes, &mut self.bytes[self.at..after]);
+        self.at = after;
         Ok(())
     }
 
