@@ -5,13 +5,15 @@ use Rattle.std.proofs.lemmas.Bool.{cases_eq, ltb-true, ltb-false}
 use Rattle.std.proofs.lemmas.Cmp.{nat_cmp_total, ranked}
 use Rattle.std.proofs.lemmas.List.Sorted.{IsPartitionedBy-ltb, searchable_from_sorted}
 use Rattle.std.specs.Cmp.{nat_cmp_is}
+use Rattle.std.specs.List.{AllByRecursion}
 use Rattle.std.specs.List.Sorted.{IsBinarySearchResult, IsNonDecreasingBy, IsPartitionPoint, IsPartitionedBy, IsSearchInRange}
 use Rattle.std.specs.Ordering.{nat_cmp, ordering_index}
-use Rattle.tables.specs.Held.{Ascending, Found, HasSmallTargets, Position, key_of, pair_of}
+use Rattle.tables.specs.Held.{Ascending, Found, Position, key_of, pair_of}
 use Rattle.tables.specs.declared.band.Band.{Band}
 use Rattle.tables.proofs.Orders.{ascending_places}
 
-module _ {S : Type 0} (held : List (Band S)) (order : Ascending held) (small : HasSmallTargets held) where
+-- with targets of 16 bits, the bands of one source lie together
+module _ {S : Type 0} (held : List (Band S)) (order : Ascending held) (small : AllByRecursion (λ b. b.target < 65_536) held) where
   fits : (i : ℕ) (d : Band S) → i < length held → (get_or held i d).target < 65_536
   fits i d within = All-get_or (λ b. b.target < 65_536) held i d within small
 
@@ -35,6 +37,7 @@ module _ {S : Type 0} (held : List (Band S)) (order : Ascending held) (small : H
       above = λ i d from less. omega (arith, ltb-false (get_or held i d).source s (parts.1 i d from less));
     }
 
+-- and the pair of b is found by its number
 module _ {S : Type 0} (held : List (Band S)) (order : Ascending held) (b : Band S) where
   abbrev order_of : Band S → Ordering
   order_of c = nat_cmp (key_of c) (key_of b)

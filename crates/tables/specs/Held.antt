@@ -21,10 +21,6 @@ abbrev pub Ascending : {S : Type 0} → List (Band S) → Type 0
 Ascending [] = Unit {0}
 Ascending (b ∷ bs) = AllByRecursion (λ c. key_of b < key_of c) bs × Ascending bs
 
--- a target is a number of 16 bits
-abbrev pub HasSmallTargets : {S : Type 0} → List (Band S) → Type 0
-HasSmallTargets held = AllByRecursion (λ b. b.target < 65_536) held
-
 -- a pair stands, or would stand, at p
 pub record Position {S : Type 0} (pair : ℕ) (held : List (Band S)) (p : ℕ) : Type 0 where
   pub within : p ≤ length held

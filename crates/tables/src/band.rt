@@ -13,7 +13,7 @@ pub struct Band<K> {
 
 impl<K> Band<K> {
     /// The pair of states as one number: held bands are in ascending order of these.
-    // No tuple: with tuples a load of bands in order took 1.4 times as long.
+    // No tuple: with tuples a load of bands in order took about 1.4 times as long.
     pub(crate) fn pair(&self) -> u32
         ensures { result ≡ key_of self.now }
     {
